@@ -1,0 +1,2 @@
+-- Laws that the proofs of `frame` share.
+pub mod Setters

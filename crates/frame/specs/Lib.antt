@@ -1,0 +1,3 @@
+-- The Yamux specification's header, and what the contracts of `frame` cite.
+pub mod Header
+pub mod Wire

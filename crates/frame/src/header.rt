@@ -1,0 +1,243 @@
+// The message frame header: what its fields mean, the frames' headers, and the twelve bytes that stand for it.
+ghost use mathlib.Core.Path.{_≡_};
+ghost use Rattle.frame.specs.Header.{server, client, session, contains, joined, flagged, withSyn, withAck, withFin, withRst};
+ghost use Rattle.frame.specs.Header.{dataHeader, windowUpdateHeader, pingHeader, goAwayHeader, normal, protocolError, internalError};
+
+// The ID of a stream. 0 stands for the session and no stream.
+pub struct StreamId(pub u32);
+
+// The flag word, all 16 bits of it.
+pub struct Flags(pub u16);
+
+// The length field as it stands in a header. What it means depends on the type.
+pub struct Len(pub u32);
+
+// The length field of a window update: the bytes by which the receiver's window grows.
+pub struct Credit(pub u32);
+
+// The message type.
+pub enum Tag {
+    Data,
+    WindowUpdate,
+    Ping,
+    GoAway,
+}
+
+// A header of version 0, the only one.
+pub struct Header {
+    pub tag: Tag,
+    pub flags: Flags,
+    pub stream_id: StreamId,
+    pub length: Len,
+}
+
+// What twelve bytes were found to be.
+pub enum Decoded {
+    Header(Header),
+    Version(u8),
+    Type(u8),
+    Size,
+}
+
+// How a header was written.
+pub enum Encoded {
+    Done,
+    Size,
+}
+
+// The type that a number stands for.
+pub enum Typed {
+    Tag(Tag),
+    Unknown,
+}
+
+pub const CONNECTION_ID: StreamId = StreamId(0);
+
+// Indicates the start of a new stream.
+pub const SYN: Flags = Flags(1);
+
+// Acknowledges the start of a new stream.
+pub const ACK: Flags = Flags(2);
+
+// Half-closes a stream.
+pub const FIN: Flags = Flags(4);
+
+// Resets a stream at once.
+pub const RST: Flags = Flags(8);
+
+pub const HEADER_SIZE: usize = 12;
+
+// The window that each side of a new stream starts with.
+pub const DEFAULT_CREDIT: u32 = 262144;
+
+impl StreamId {
+    pub fn is_server(self) -> bool
+        ensures { λ r. ⌜ r ≡ server self ⌝ }
+    {
+        self.0 % 2 == 0
+    }
+
+    pub fn is_client(self) -> bool
+        ensures { λ r. ⌜ r ≡ client self ⌝ }
+    {
+        self.0 % 2 == 1
+    }
+
+    pub fn is_session(self) -> bool
+        ensures { λ r. ⌜ r ≡ session self ⌝ }
+    {
+        self.0 == 0
+    }
+}
+
+impl Flags {
+    // Whether every bit of other is set in self.
+    pub fn contains(self, other: Flags) -> bool
+        ensures { λ r. ⌜ r ≡ contains self other ⌝ }
+    {
+        self.0 & other.0 == other.0
+    }
+
+    // The bits of both.
+    pub fn with(self, other: Flags) -> Flags
+        ensures { λ r. ⌜ r ≡ joined self other ⌝ }
+    {
+        Flags(self.0 | other.0)
+    }
+}
+
+impl Header {
+    // The header with the flag set beside those that it has.
+    fn with(mut self, flag: Flags) -> Self
+        ensures { λ r. ⌜ r ≡ flagged self flag ⌝ }
+    {
+        let flags = self.flags.with(flag);
+        self.flags = flags;
+        self
+    }
+
+    pub fn syn(mut self) -> Self
+        ensures { λ r. ⌜ r ≡ withSyn self ⌝ }
+    {
+        let tag = self.tag;
+        match tag {
+            Tag::Data => self.with(SYN),
+            Tag::WindowUpdate => self.with(SYN),
+            Tag::Ping => self.with(SYN),
+            Tag::GoAway => self,
+        }
+    }
+
+    pub fn ack(mut self) -> Self
+        ensures { λ r. ⌜ r ≡ withAck self ⌝ }
+    {
+        let tag = self.tag;
+        match tag {
+            Tag::Data => self.with(ACK),
+            Tag::WindowUpdate => self.with(ACK),
+            Tag::Ping => self.with(ACK),
+            Tag::GoAway => self,
+        }
+    }
+
+    pub fn fin(mut self) -> Self
+        ensures { λ r. ⌜ r ≡ withFin self ⌝ }
+    {
+        let tag = self.tag;
+        match tag {
+            Tag::Data => self.with(FIN),
+            Tag::WindowUpdate => self.with(FIN),
+            Tag::Ping => self,
+            Tag::GoAway => self,
+        }
+    }
+
+    pub fn rst(mut self) -> Self
+        ensures { λ r. ⌜ r ≡ withRst self ⌝ }
+    {
+        let tag = self.tag;
+        match tag {
+            Tag::Data => self.with(RST),
+            Tag::WindowUpdate => self.with(RST),
+            Tag::Ping => self,
+            Tag::GoAway => self,
+        }
+    }
+
+    pub fn data(id: StreamId, len: Len) -> Self
+        ensures { λ r. ⌜ r ≡ dataHeader id len ⌝ }
+    {
+        Header {
+            tag: Tag::Data,
+            flags: Flags(0),
+            stream_id: id,
+            length: len,
+        }
+    }
+
+    pub fn window_update(id: StreamId, credit: Credit) -> Self
+        ensures { λ r. ⌜ r ≡ windowUpdateHeader id credit ⌝ }
+    {
+        Header {
+            tag: Tag::WindowUpdate,
+            flags: Flags(0),
+            stream_id: id,
+            length: Len(credit.0),
+        }
+    }
+
+    // The bytes that this window update grants.
+    pub fn credit(self) -> Credit
+        ensures { λ r. ⌜ r .0 ≡ self .length .0 ⌝ }
+    {
+        Credit(self.length.0)
+    }
+
+    pub fn ping(id: u32) -> Self
+        ensures { λ r. ⌜ r ≡ pingHeader id ⌝ }
+    {
+        Header {
+            tag: Tag::Ping,
+            flags: Flags(0),
+            stream_id: CONNECTION_ID,
+            length: Len(id),
+        }
+    }
+
+    // The value that a ping carries and its answer repeats.
+    pub fn id(self) -> u32
+        ensures { λ r. ⌜ r ≡ self .length .0 ⌝ }
+    {
+        self.length.0
+    }
+
+    // Ends the session without an error.
+    pub fn term() -> Self
+        ensures { λ r. ⌜ r ≡ goAwayHeader normal ⌝ }
+    {
+        Header::go_away(0)
+    }
+
+    pub fn protocol_error() -> Self
+        ensures { λ r. ⌜ r ≡ goAwayHeader protocolError ⌝ }
+    {
+        Header::go_away(1)
+    }
+
+    pub fn internal_error() -> Self
+        ensures { λ r. ⌜ r ≡ goAwayHeader internalError ⌝ }
+    {
+        Header::go_away(2)
+    }
+
+    fn go_away(code: u32) -> Self
+        ensures { λ r. ⌜ r ≡ goAwayHeader code ⌝ }
+    {
+        Header {
+            tag: Tag::GoAway,
+            flags: Flags(0),
+            stream_id: CONNECTION_ID,
+            length: Len(code),
+        }
+    }
+}
