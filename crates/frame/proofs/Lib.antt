@@ -1,2 +1,3 @@
 -- Laws that the proofs of `frame` share.
 pub mod Setters
+pub mod Codec

@@ -1,0 +1,98 @@
+-- The twelve bytes that stand for a header, as the Yamux specification lays them out: version, type, flags, stream id,
+-- length, each field's most significant byte first.
+use mathlib.Core.Bool.{Bool, cond}
+use mathlib.Core.List.{List, [], _∷_, _++_}
+use Prim.Native.Nat.{ℕ, _+_, _*_, _/_, _%_, _<_, _^_}
+use lib.ListN.{length, getD}
+use lib.Dec.{eqb}
+use Rattle.frame.specs.declared.header.Header.{Header}
+use Rattle.frame.specs.declared.header.Tag.{Tag}
+use Rattle.frame.specs.declared.header.Tag.the-variants.{Data, WindowUpdate, Ping, GoAway}
+use Rattle.frame.specs.declared.header.Typed.{Typed}
+use Rattle.frame.specs.declared.header.Typed.the-variants as typed
+use Rattle.frame.specs.declared.header.Decoded.{Decoded}
+use Rattle.frame.specs.declared.header.Decoded.the-variants as found
+use Rattle.frame.specs.declared.header.Encoded.{Encoded}
+use Rattle.frame.specs.declared.header.Encoded.the-variants as wrote
+
+-- ---- writing
+
+-- The types: 0x0 Data, 0x1 Window Update, 0x2 Ping, 0x3 Go Away.
+abbrev pub tagNumber : Tag → ℕ
+tagNumber Data = 0
+tagNumber WindowUpdate = 1
+tagNumber Ping = 2
+tagNumber GoAway = 3
+
+-- All fields are encoded in network order, that is big endian.
+abbrev pub bytes16 : ℕ → List ℕ
+bytes16 x = x / 256 % 256 ∷ x % 256 ∷ []
+
+abbrev pub bytes32 : ℕ → List ℕ
+bytes32 x = x / 16777216 % 256 ∷ x / 65536 % 256 ∷ x / 256 % 256 ∷ x % 256 ∷ []
+
+-- Version (8 bits, always 0), Type (8 bits), Flags (16 bits), StreamID (32 bits), Length (32 bits).
+abbrev pub wire : Header → List ℕ
+wire h = 0 ∷ tagNumber (h .tag) ∷ (bytes16 (h .flags .0) ++ (bytes32 (h .«stream_id» .0) ++ bytes32 (h .length .0)))
+
+-- ---- reading
+
+-- The type of a number. Above 3 there is none.
+abbrev pub typeOf : ℕ → Typed
+typeOf n =
+    cond (eqb n 0) (typed.Tag Data)
+    (cond (eqb n 1) (typed.Tag WindowUpdate)
+    (cond (eqb n 2) (typed.Tag Ping)
+    (cond (eqb n 3) (typed.Tag GoAway) typed.Unknown)))
+
+-- The number whose big-endian bytes these are.
+abbrev pub number16 : ℕ → ℕ → ℕ
+number16 a b = a * 256 + b
+
+abbrev pub number32 : ℕ → ℕ → ℕ → ℕ → ℕ
+number32 a b c d = a * 16777216 + b * 65536 + c * 256 + d
+
+-- The field that starts at a byte.
+abbrev pub field16 : List ℕ → ℕ → ℕ
+field16 b at = number16 (getD b at 0) (getD b (at + 1) 0)
+
+abbrev pub field32 : List ℕ → ℕ → ℕ
+field32 b at = number32 (getD b at 0) (getD b (at + 1) 0) (getD b (at + 2) 0) (getD b (at + 3) 0)
+
+-- The flags at byte 2, all 16 bits of them, the stream id at 4, the length at 8.
+abbrev pub fields : Tag → List ℕ → Header
+fields t b =
+    record { tag = t; flags = record { 0 = field16 b 2 }; «stream_id» = record { 0 = field32 b 4 }; length = record { 0 = field32 b 8 } }
+
+-- The type at byte 1, and an unknown one handed back.
+abbrev pub typedAs : Typed → List ℕ → Decoded
+typedAs (typed.Tag t) b = found.Header (fields t b)
+typedAs typed.Unknown b = found.Type (getD b 1 0)
+
+-- A header is twelve bytes of version 0 and of a known type.
+abbrev pub decoded : List ℕ → Decoded
+decoded b =
+    cond (eqb (length b) 12)
+    (cond (eqb (getD b 0 0) 0) (typedAs (typeOf (getD b 1 0)) b) (found.Version (getD b 0 0)))
+    found.Size
+
+-- ---- document 01's numbers
+
+-- 0 done, 11 unknown version, 12 unknown type, 14 a header of the wrong size.
+abbrev pub decodeReply : Decoded → ℕ
+decodeReply (found.Header h) = 0
+decodeReply (found.Version v) = 11
+decodeReply (found.Type t) = 12
+decodeReply found.Size = 14
+
+abbrev pub encodeReply : Encoded → ℕ
+encodeReply wrote.Done = 0
+encodeReply wrote.Size = 14
+
+-- How a header is written into a buffer: only one of twelve bytes takes it.
+abbrev pub encoded : List ℕ → Encoded
+encoded b = cond (eqb (length b) 12) wrote.Done wrote.Size
+
+-- The buffer after that: the header's bytes, or as it was.
+abbrev pub written : Header → List ℕ → List ℕ
+written h b = cond (eqb (length b) 12) (wire h) b

@@ -3,7 +3,6 @@ pub mod header;
 
 ghost use mathlib.Core.Path.{_≡_};
 ghost use Rattle.frame.specs.Header.{closeStream, pingSyn};
-
 use header::Header;
 use header::Len;
 use header::StreamId;
