@@ -1,8 +1,9 @@
 -- The twelve bytes that stand for a header, as the Yamux specification lays them out: version, type, flags, stream id,
 -- length, each field's most significant byte first.
 use mathlib.Core.Bool.{Bool, cond}
+use mathlib.Core.Path.{_≡_}
 use mathlib.Core.List.{List, [], _∷_, _++_}
-use Prim.Native.Nat.{ℕ, _+_, _*_, _/_, _%_, _<_, _^_}
+use Prim.Native.Nat.{ℕ, _+_, _*_, _/_, _%_, _<_}
 use lib.ListN.{length, getD}
 use lib.Dec.{eqb}
 use Rattle.frame.specs.declared.header.Header.{Header}
@@ -96,3 +97,22 @@ encoded b = cond (eqb (length b) 12) wrote.Done wrote.Size
 -- The buffer after that: the header's bytes, or as it was.
 abbrev pub written : Header → List ℕ → List ℕ
 written h b = cond (eqb (length b) 12) (wire h) b
+
+-- ---- what a header and a byte can hold
+
+-- Flags are 16 bits, the stream id and the length 32 each.
+pub record InRange (h : Header) : Type 0 where
+  pub flags : h .flags .0 < 65536
+  pub «stream_id» : h .«stream_id» .0 < 4294967296
+  pub length : h .length .0 < 4294967296
+
+-- Each element is a byte.
+abbrev pub Bytes : List ℕ → Type 0
+Bytes b = (i : ℕ) → getD b i 0 < 256
+
+-- Which bytes are which answer, rule by rule: the header, or the refusal with its cause.
+pub data Reading (b : List ℕ) : Decoded → Type 0 where
+  header : (t : Tag) → length b ≡ 12 → getD b 0 0 ≡ 0 → getD b 1 0 ≡ tagNumber t → Reading b (found.Header (fields t b))
+  version : length b ≡ 12 → (getD b 0 0 ≡ 0 → ⊥) → Reading b (found.Version (getD b 0 0))
+  type : length b ≡ 12 → getD b 0 0 ≡ 0 → 3 < getD b 1 0 → Reading b (found.Type (getD b 1 0))
+  size : (length b ≡ 12 → ⊥) → Reading b found.Size
