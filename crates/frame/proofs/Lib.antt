@@ -2,3 +2,4 @@
 pub mod Setters
 pub mod Codec
 pub mod Wire
+pub mod Flags

@@ -1,6 +1,6 @@
 -- What a header's fields mean. Sentences in quotes are the Yamux specification's.
 use mathlib.Core.Bool.{Bool, true, false, cond}
-use Prim.Native.Nat.{ℕ, _+_, _%_}
+use Prim.Native.Nat.{ℕ, _/_, _%_, _^_}
 use lib.Dec.{eqb}
 use lib.Bits.{bitAnd, bitOr}
 use Rattle.frame.specs.declared.header.StreamId.{StreamId}
@@ -79,6 +79,46 @@ withFin h = closing (h .tag) fin h
 
 abbrev pub withRst : Header → Header
 withRst h = closing (h .tag) rst h
+
+-- The four flags, by the bit of the flag word that each is.
+pub data Flag : Type 0 where
+  SYN ACK FIN RST : Flag
+
+abbrev pub position : Flag → ℕ
+position SYN = 0
+position ACK = 1
+position FIN = 2
+position RST = 3
+
+-- bit k of a word
+abbrev pub bit : ℕ → ℕ → ℕ
+bit x k = x / 2 ^ k % 2
+
+-- the setter of each flag
+abbrev pub setter : Flag → Header → Header
+setter SYN h = withSyn h
+setter ACK h = withAck h
+setter FIN h = withFin h
+setter RST h = withRst h
+
+-- which types have it
+abbrev pub opens : Tag → Bool
+opens Data = true
+opens WindowUpdate = true
+opens Ping = true
+opens GoAway = false
+
+abbrev pub closes : Tag → Bool
+closes Data = true
+closes WindowUpdate = true
+closes Ping = false
+closes GoAway = false
+
+abbrev pub has : Tag → Flag → Bool
+has t SYN = opens t
+has t ACK = opens t
+has t FIN = closes t
+has t RST = closes t
 
 -- ---- the length field
 
