@@ -59,6 +59,27 @@ typing n = at0 (eqb n 0) refl
     at0 true e = known Data (eqb-true _ _ e)
     at0 false e = at1 (eqb n 1) refl (let k = eqb-false n 0 e in omega (arith, k))
 
+-- a type's number, and it is at most 3
+pub known-number : (n : ℕ) (t : Tag) → typeOf n ≡ typed.Tag t → n ≡ tagNumber t
+known-number n t e = of (typing n) e
+  where
+    of : {k : Typed} → Typing n k → k ≡ typed.Tag t → n ≡ tagNumber t
+    of (known u h) e = let same : u ≡ t = cc in h ∙ ap tagNumber same
+    of (unknown h) e = let z : _≡_ {A = ℕ} 0 1 = cc in absurd (omega arith)
+
+pub number-small : (t : Tag) → tagNumber t ≤ 3
+number-small Data = omega arith
+number-small WindowUpdate = omega arith
+number-small Ping = omega arith
+number-small GoAway = omega arith
+
+pub unknown-number : (n : ℕ) → typeOf n ≡ typed.Unknown → 3 < n
+unknown-number n e = of (typing n) e
+  where
+    of : {k : Typed} → Typing n k → k ≡ typed.Unknown → 3 < n
+    of (known u h) e = let z : _≡_ {A = ℕ} 0 1 = cc in absurd (omega arith)
+    of (unknown h) e = h
+
 -- ---- reading is exactly the rules
 
 by-type : (b : List ℕ) {k : Typed} → length b ≡ 12 → getD b 0 0 ≡ 0 → Typing (getD b 1 0) k → Reading b (typedAs k b)

@@ -5,7 +5,7 @@ use mathlib.Core.Path.{_≡_}
 use mathlib.Core.List.{List, [], _∷_, _++_}
 use Prim.Native.Nat.{ℕ, _+_, _*_, _/_, _%_, _<_}
 use lib.ListN.{length, getD}
-use lib.Dec.{eqb}
+use lib.Dec.{eqb, leb}
 use Rattle.frame.specs.declared.header.Header.{Header}
 use Rattle.frame.specs.declared.header.Tag.{Tag}
 use Rattle.frame.specs.declared.header.Tag.the-variants.{Data, WindowUpdate, Ping, GoAway}
@@ -33,8 +33,11 @@ abbrev pub bytes32 : ℕ → List ℕ
 bytes32 x = x / 16777216 % 256 ∷ x / 65536 % 256 ∷ x / 256 % 256 ∷ x % 256 ∷ []
 
 -- Version (8 bits, always 0), Type (8 bits), Flags (16 bits), StreamID (32 bits), Length (32 bits).
+abbrev pub layout : ℕ → ℕ → ℕ → ℕ → List ℕ
+layout kind flags id n = 0 ∷ kind ∷ (bytes16 flags ++ (bytes32 id ++ bytes32 n))
+
 abbrev pub wire : Header → List ℕ
-wire h = 0 ∷ tagNumber (h .tag) ∷ (bytes16 (h .flags .0) ++ (bytes32 (h .«stream_id» .0) ++ bytes32 (h .length .0)))
+wire h = layout (tagNumber (h .tag)) (h .flags .0) (h .«stream_id» .0) (h .length .0)
 
 -- ---- reading
 
@@ -97,6 +100,35 @@ encoded b = cond (eqb (length b) 12) wrote.Done wrote.Size
 -- The buffer after that: the header's bytes, or as it was.
 abbrev pub written : Header → List ℕ → List ℕ
 written h b = cond (eqb (length b) 12) (wire h) b
+
+-- ---- on numbers, for C
+
+-- Document 01: encode gives 14 for a buffer of the wrong size, tested first, and 12 for a type above 3.
+abbrev pub numbersReply : ℕ → List ℕ → ℕ
+numbersReply kind b = cond (eqb (length b) 12) (cond (leb kind 3) 0 12) 14
+
+-- The buffer after that: the twelve bytes, or as it was on a refusal.
+abbrev pub numbersWritten : ℕ → ℕ → ℕ → ℕ → List ℕ → List ℕ
+numbersWritten kind flags id n b = cond (eqb (length b) 12) (cond (leb kind 3) (layout kind flags id n) b) b
+
+-- A number that decode hands out: the header's, or as it was on a refusal.
+abbrev pub handed : Decoded → (Header → ℕ) → ℕ → ℕ
+handed (found.Header h) field was = field h
+handed (found.Version v) field was = was
+handed (found.Type t) field was = was
+handed found.Size field was = was
+
+abbrev pub kindOf : Header → ℕ
+kindOf h = tagNumber (h .tag)
+
+abbrev pub flagsOf : Header → ℕ
+flagsOf h = h .flags .0
+
+abbrev pub idOf : Header → ℕ
+idOf h = h .«stream_id» .0
+
+abbrev pub lengthOf : Header → ℕ
+lengthOf h = h .length .0
 
 -- ---- what a header and a byte can hold
 

@@ -1,4 +1,5 @@
 // Yamux frames: the header and its codec, and the frames that are more than one header's maker.
+mod c;
 pub mod header;
 
 ghost use mathlib.Core.Path.{_≡_};
