@@ -1,6 +1,6 @@
 // The message frame header: what its fields mean, the frames' headers, and the twelve bytes that stand for it.
 ghost use mathlib.Core.Path.{_≡_};
-ghost use Rattle.frame.specs.Header.{server, client, session, contains, joined, flagged, withSyn, withAck, withFin, withRst};
+ghost use Rattle.frame.specs.Header.{server, client, session, contains, joined, flagged, opening, closing, withSyn, withAck, withFin, withRst};
 ghost use Rattle.frame.specs.Wire.{tagNumber, typeOf, number16, number32, wire, decoded, encoded, written};
 ghost use Rattle.frame.specs.Header.{dataHeader, windowUpdateHeader, pingHeader, goAwayHeader, normal, protocolError, internalError};
 
@@ -117,52 +117,54 @@ impl Header {
         self
     }
 
-    pub fn syn(mut self) -> Self
-        ensures { λ r. ⌜ r ≡ withSyn self ⌝ }
+    // The header with a flag that a GoAway lacks.
+    fn opening(mut self, flag: Flags) -> Self
+        ensures { λ r. ⌜ r ≡ opening (self .tag) flag self ⌝ }
     {
         let tag = self.tag;
         match tag {
-            Tag::Data => self.with(SYN),
-            Tag::WindowUpdate => self.with(SYN),
-            Tag::Ping => self.with(SYN),
+            Tag::Data => self.with(flag),
+            Tag::WindowUpdate => self.with(flag),
+            Tag::Ping => self.with(flag),
             Tag::GoAway => self,
         }
+    }
+
+    // The header with a flag that a Ping lacks too.
+    fn closing(mut self, flag: Flags) -> Self
+        ensures { λ r. ⌜ r ≡ closing (self .tag) flag self ⌝ }
+    {
+        let tag = self.tag;
+        match tag {
+            Tag::Data => self.with(flag),
+            Tag::WindowUpdate => self.with(flag),
+            Tag::Ping => self,
+            Tag::GoAway => self,
+        }
+    }
+
+    pub fn syn(mut self) -> Self
+        ensures { λ r. ⌜ r ≡ withSyn self ⌝ }
+    {
+        self.opening(SYN)
     }
 
     pub fn ack(mut self) -> Self
         ensures { λ r. ⌜ r ≡ withAck self ⌝ }
     {
-        let tag = self.tag;
-        match tag {
-            Tag::Data => self.with(ACK),
-            Tag::WindowUpdate => self.with(ACK),
-            Tag::Ping => self.with(ACK),
-            Tag::GoAway => self,
-        }
+        self.opening(ACK)
     }
 
     pub fn fin(mut self) -> Self
         ensures { λ r. ⌜ r ≡ withFin self ⌝ }
     {
-        let tag = self.tag;
-        match tag {
-            Tag::Data => self.with(FIN),
-            Tag::WindowUpdate => self.with(FIN),
-            Tag::Ping => self,
-            Tag::GoAway => self,
-        }
+        self.closing(FIN)
     }
 
     pub fn rst(mut self) -> Self
         ensures { λ r. ⌜ r ≡ withRst self ⌝ }
     {
-        let tag = self.tag;
-        match tag {
-            Tag::Data => self.with(RST),
-            Tag::WindowUpdate => self.with(RST),
-            Tag::Ping => self,
-            Tag::GoAway => self,
-        }
+        self.closing(RST)
     }
 
     pub fn data(id: StreamId, len: Len) -> Self

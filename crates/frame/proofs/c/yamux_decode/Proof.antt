@@ -1,58 +1,45 @@
+-- `yamux_decode` meets its contract: in each arm `decode`'s answer is the one that the arm was told of. Assumes nothing.
 use borrow.Author.Needs.{needs}
 use mathlib.Core.Path.{_≡_, sym, _∙_}
 use Rattle.frame.specs.Wire.{decoded}
 use Rattle.frame.specs.declared.header.Decoded.the-variants as found
 use Rattle.frame.proofs.c.yamux_decode.Statement.{statement}
 use Rattle.frame.proofs.c.yamux_decode.Tie as tie
-use Rattle.frame.proofs.c.yamux_decode.Reads as reads
-use Rattle.frame.proofs.c.yamux_decode.Lts as lts
-use Rattle.frame.proofs.header.Tag.number.Reads as number-reads
-use Rattle.frame.proofs.header.decode.Reads as decode-reads
 
--- src/c.rt:50:11
 decode-requires : tie.Need-decode-requires
 decode-requires c κs = search needs
 
--- src/c.rt:51:25
 enum-known-h : tie.Need-enum-known-h
 enum-known-h c = search needs
 
--- src/c.rt:53:20
 number-requires : tie.Need-number-requires
 number-requires c κs = search needs
 
--- src/c.rt:59:32
 enum-told : tie.Need-enum-told
 enum-told c = search needs
 
--- src/c.rt:60:29
 enum-told-2 : tie.Need-enum-told-2
 enum-told-2 c = search needs
 
--- src/c.rt:61:26
 enum-told-3 : tie.Need-enum-told-3
 enum-told-3 c = search needs
 
--- src/c.rt:42:1
 returns : tie.Need-returns
 returns c =
     let h = c .before .before .h .given in
     let e : decoded (c .before .before .before .before .before .before .args .buf .now) ≡ found.Header (h .0 .0) = sym (c .before .before .before .before .decode .ensures) ∙ h .1 in
     (rw e, (rw e (c .number .ensures), (rw e, (rw e, rw e))))
 
--- src/c.rt:42:1
 returns-2 : tie.Need-returns-2
 returns-2 c =
     let e = sym (c .before .before .decode .ensures) ∙ c .enum-told .given .1 in
     (rw e, (rw e, (rw e, (rw e, rw e))))
 
--- src/c.rt:42:1
 returns-3 : tie.Need-returns-3
 returns-3 c =
     let e = sym (c .before .before .decode .ensures) ∙ c .enum-told2 .given .1 in
     (rw e, (rw e, (rw e, (rw e, rw e))))
 
--- src/c.rt:42:1
 returns-4 : tie.Need-returns-4
 returns-4 c =
     let e = sym (c .before .before .decode .ensures) ∙ c .enum-told3 .given .1 in

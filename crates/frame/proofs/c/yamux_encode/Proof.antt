@@ -1,3 +1,4 @@
+-- `yamux_encode` meets its contract, by `refused` and `laid` for a type that is unknown or known. Assumes nothing.
 use borrow.Author.Needs.{needs}
 use mathlib.Core.Path.{_≡_, sym, _∙_}
 use borrow.Author.Tests.{ne-eqb}
@@ -5,43 +6,31 @@ use lib.ListN.{length}
 use Rattle.frame.proofs.Codec.{refused, laid}
 use Rattle.frame.proofs.c.yamux_encode.Statement.{statement}
 use Rattle.frame.proofs.c.yamux_encode.Tie as tie
-use Rattle.frame.proofs.c.yamux_encode.Reads as reads
-use Rattle.frame.proofs.c.yamux_encode.Lts as lts
-use Rattle.frame.proofs.header.Tag.of.Reads as of-reads
-use Rattle.frame.proofs.header.encode.Reads as encode-reads
 
--- src/c.rt:26:9
 returns : tie.Need-returns
 returns c = let no = ne-eqb _ _ (c .if1 .taken) in (rw no, rw no)
 
--- src/c.rt:28:28
 of-requires : tie.Need-of-requires
 of-requires c κs = search needs
 
--- src/c.rt:28:20
 enum-known-kind : tie.Need-enum-known-kind
 enum-known-kind c = search needs
 
--- src/c.rt:29:9
 enum-told : tie.Need-enum-told
 enum-told c = search needs
 
--- src/c.rt:29:9
 returns-2 : tie.Need-returns-2
 returns-2 c =
     let k = c .before .before in
     let a = k .before .before .before .args in
     refused (a .tag) (a .flags) (a .stream-id) (a .length) (a .buf .now) (k .before .if1 .left) (sym (k .of .ensures) ∙ c .enum-told .given .1)
 
--- src/c.rt:37:5
 encode-requires : tie.Need-encode-requires
 encode-requires c κs = search needs
 
--- src/c.rt:20:1
 same-length : tie.Need-same-length
 same-length c = search needs
 
--- src/c.rt:20:1
 returns-3 : tie.Need-returns-3
 returns-3 c =
     let t = c .before .before .before .before .before in

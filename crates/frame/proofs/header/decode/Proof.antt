@@ -1,110 +1,82 @@
+-- `header::decode` meets its contract. Each refusal is settled by the tests before it; the header, by `header-read` and the calls' equations. Assumes nothing.
 use borrow.Author.Needs.{needs}
 use borrow.Author.Tests.{eq-eqb, ne-eqb}
 use mathlib.Core.Path.{sym, _∙_}
 use Rattle.frame.proofs.Codec.{header-read}
 use Rattle.frame.proofs.header.decode.Statement.{statement}
 use Rattle.frame.proofs.header.decode.Tie as tie
-use Rattle.frame.proofs.header.decode.Reads as reads
-use Rattle.frame.proofs.header.decode.Lts as lts
-use Rattle.frame.proofs.header.Tag.of.Reads as of-reads
-use Rattle.frame.proofs.header.number16.Reads as number16-reads
-use Rattle.frame.proofs.header.number32.Reads as number32-reads
 
--- src/header.rt:298:9
 returns : tie.Need-returns
 returns c = rw (ne-eqb _ _ (c .if1 .taken))
 
--- src/header.rt:300:8
 shared-slice-read-if2 : tie.Need-shared-slice-read-if2
 shared-slice-read-if2 c = search needs
 
--- src/header.rt:301:33
 shared-slice-read-t11 : tie.Need-shared-slice-read-t11
 shared-slice-read-t11 c = search needs
 
--- src/header.rt:301:9
 returns-2 : tie.Need-returns-2
 returns-2 c = rw (eq-eqb _ _ (c .before .before .before .if1 .left), ne-eqb _ _ (c .before .if2 .taken))
 
--- src/header.rt:303:35
 shared-slice-read-of : tie.Need-shared-slice-read-of
 shared-slice-read-of c = search needs
 
--- src/header.rt:303:27
 of-requires : tie.Need-of-requires
 of-requires c κs = search needs
 
--- src/header.rt:303:20
 enum-known-tag : tie.Need-enum-known-tag
 enum-known-tag c = search needs
 
--- src/header.rt:304:30
 enum-told : tie.Need-enum-told
 enum-told c = search needs
 
--- src/header.rt:304:30
 shared-slice-read-t15 : tie.Need-shared-slice-read-t15
 shared-slice-read-t15 c = search needs
 
--- src/header.rt:304:9
 returns-3 : tie.Need-returns-3
 returns-3 c =
     let m = c .before .before .before in
     rw (eq-eqb _ _ (m .before .before .before .before .if1 .left), eq-eqb _ _ (m .before .before .if2 .left), ← m .of .ensures, c .before .enum-told .given .1)
 
--- src/header.rt:306:26
 shared-slice-read-number16 : tie.Need-shared-slice-read-number16
 shared-slice-read-number16 c = search needs
 
--- src/header.rt:306:34
 shared-slice-read-number16-2 : tie.Need-shared-slice-read-number16-2
 shared-slice-read-number16-2 c = search needs
 
--- src/header.rt:306:9
 number16-requires : tie.Need-number16-requires
 number16-requires c κs = search needs
 
--- src/header.rt:307:30
 shared-slice-read-number32 : tie.Need-shared-slice-read-number32
 shared-slice-read-number32 c = search needs
 
--- src/header.rt:307:38
 shared-slice-read-number32-2 : tie.Need-shared-slice-read-number32-2
 shared-slice-read-number32-2 c = search needs
 
--- src/header.rt:307:46
 shared-slice-read-number32-3 : tie.Need-shared-slice-read-number32-3
 shared-slice-read-number32-3 c = search needs
 
--- src/header.rt:307:54
 shared-slice-read-number32-4 : tie.Need-shared-slice-read-number32-4
 shared-slice-read-number32-4 c = search needs
 
--- src/header.rt:307:9
 number32-requires : tie.Need-number32-requires
 number32-requires c κs = search needs
 
--- src/header.rt:308:27
 shared-slice-read-number32-5 : tie.Need-shared-slice-read-number32-5
 shared-slice-read-number32-5 c = search needs
 
--- src/header.rt:308:35
 shared-slice-read-number32-6 : tie.Need-shared-slice-read-number32-6
 shared-slice-read-number32-6 c = search needs
 
--- src/header.rt:308:43
 shared-slice-read-number32-7 : tie.Need-shared-slice-read-number32-7
 shared-slice-read-number32-7 c = search needs
 
--- src/header.rt:308:52
 shared-slice-read-number32-8 : tie.Need-shared-slice-read-number32-8
 shared-slice-read-number32-8 c = search needs
 
--- src/header.rt:308:9
 number32-requires-2 : tie.Need-number32-requires-2
 number32-requires-2 c κs = search needs
 
--- src/header.rt:294:1
 returns-4 : tie.Need-returns-4
 returns-4 c =
     let n = c .before .before .before .before .before in

@@ -1,3 +1,4 @@
+-- `header::encode` meets its contract. A copy of twelve bytes over twelve is those bytes. Assumes nothing.
 use borrow.Author.Needs.{needs}
 use borrow.Author.Tests.{eq-eqb, ne-eqb}
 use lib.ListN.{length}
@@ -5,32 +6,22 @@ use Rattle.frame.proofs.Codec.{whole}
 use mathlib.Core.Path.{_≡_, sym, ap, _∙_}
 use Rattle.frame.proofs.header.encode.Statement.{statement}
 use Rattle.frame.proofs.header.encode.Tie as tie
-use Rattle.frame.proofs.header.encode.Reads as reads
-use Rattle.frame.proofs.header.encode.Lts as lts
-use Rattle.bytes.proofs.copy.Reads as copy-reads
-use Rattle.frame.proofs.header.wire.Reads as wire-reads
 
--- src/header.rt:348:9
 returns : tie.Need-returns
 returns c = let no = ne-eqb _ _ (c .if1 .taken) in (rw no, rw no)
 
--- src/header.rt:350:17
 wire-requires : tie.Need-wire-requires
 wire-requires c κs = search needs
 
--- src/header.rt:351:17
 slice-aggregate-copy : tie.Need-slice-aggregate-copy
 slice-aggregate-copy c = search needs
 
--- src/header.rt:351:5
 copy-requires : tie.Need-copy-requires
 copy-requires c κs = search needs
 
--- src/header.rt:343:1
 same-length : tie.Need-same-length
 same-length c = search needs
 
--- src/header.rt:343:1
 returns-2 : tie.Need-returns-2
 returns-2 c =
     let k = c .before .before in
