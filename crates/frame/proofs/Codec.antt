@@ -1,7 +1,7 @@
 -- What `decode` and `encode` come to on the way that succeeds. Assumes nothing.
-use mathlib.Core.Path.{_≡_, sym, ap}
+use mathlib.Core.Path.{_≡_}
 use mathlib.Core.List.{List, _++_, append-nil}
-use Prim.Native.Nat.{ℕ, _≤_}
+use Prim.Native.Nat.{ℕ}
 use native.Mathlib.Nat.{le-of-eq}
 use borrow.Author.Tests.{eq-eqb, le-leb, lt-leb}
 use lib.ListN.{length, getD, take, drop, drop-of-length-le}

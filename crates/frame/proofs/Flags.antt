@@ -1,16 +1,17 @@
 -- The flag word, bit by bit: joining sets a flag's own bit and no other, `contains` looks at that bit, and setters commute
 -- and are idempotent. Stated once over the bit and the flag. Assumes nothing.
-use mathlib.Core.Path.{_≡_, refl, sym, ap, ap₂, _∙_}
+use mathlib.Core.Path.{_≡_, refl, sym, ap, _∙_, subst}
 use mathlib.Core.Bool.{Bool, true, false, cond}
-use Prim.Native.Nat.{ℕ, zero, suc, _+_, _-_, _*_, _/_, _%_, _^_, _<_, _≤_, min, max}
+use Prim.Native.Nat.{ℕ, zero, suc, _+_, _-_, _*_, _/_, _%_, _^_, _<_, max}
 use native.Mathlib.Omega.{arith}
 use native.Mathlib.Nat.{zero-lt-suc, pow-suc, mod-lt, div-eq-of-lt, div-one, mul-mod-left, mul-div-mul-right}
 use lib.Arith.{bin-ind}
 use lib.Pow.{pow-pos, pow-lt, pow-add}
 use borrow.Author.Tests.{eq-eqb, ne-eqb}
 use lib.Dec.{eqb, eqb·zero-suc, eqb·suc-zero, eqb·suc-suc}
-use lib.Bits.{bitAnd, bitOr, or-step, or-shr, or-comm, or-self, or-zero-r, and-high}
-use Rattle.frame.specs.Header.{contains, joined, flagged, opening, closing, Flag, SYN, ACK, FIN, RST, position, bit, setter, opens, closes, has}
+use lib.Bits.{bitAnd, bitOr, or-step, or-shr, or-comm, or-self, or-zero-r, or-lt, and-high}
+use Rattle.frame.specs.Header.{contains, flagged, opening, closing, Flag, SYN, ACK, FIN, RST, position, bit, setter, opens, closes, has}
+use Rattle.frame.specs.Wire.{InRange}
 use Rattle.frame.specs.declared.header.Flags.{Flags}
 use Rattle.frame.specs.declared.header.Header.{Header}
 use Rattle.frame.specs.declared.header.Tag.{Tag}
@@ -147,3 +148,16 @@ setter-id g h = ap (λ (x : Header). x .«stream_id») (setter-mask g h)
 
 pub setter-length : (g : Flag) (h : Header) → setter g h .length ≡ h .length
 setter-length g h = ap (λ (x : Header). x .length) (setter-mask g h)
+
+-- a header in range stays in range
+pub setter-in-range : (g : Flag) (h : Header) → InRange h → InRange (setter g h)
+setter-in-range g h r =
+    subst InRange (sym (setter-mask g h))
+    (record { flags = or-lt 16 (h .flags .0) (mask g (h .tag) .0) (r .flags) (small (has (h .tag) g) g); «stream_id» = r .«stream_id»; length = r .length })
+  where
+    small : (x : Bool) (g : Flag) → cond x (2 ^ position g) 0 < 65536
+    small true SYN = omega arith
+    small true ACK = omega arith
+    small true FIN = omega arith
+    small true RST = omega arith
+    small false g = omega arith

@@ -6,13 +6,11 @@ use mathlib.Core.Bool.{Bool, true, false, cond}
 use mathlib.Core.List.{List, [], _∷_, _++_}
 use Prim.Native.Nat.{ℕ, zero, suc, _+_, _*_, _/_, _%_, _<_, _≤_}
 use native.Mathlib.Omega.{arith}
-use native.Mathlib.Nat.{le-of-eq}
-use native.Mathlib.Numerals.{add-one}
 use borrow.Author.Tests.{eq-eqb, ne-eqb, eqb-true, eqb-false}
 use lib.Dec.{eqb}
 use lib.ListN.{length, getD, drop, drop-of-length-le}
 use lib.Seq.{drop-cons}
-use Rattle.frame.specs.Wire.{tagNumber, bytes16, bytes32, wire, typeOf, number16, number32, fields, typedAs, decoded, InRange, Bytes, Reading, header, version, type, size}
+use Rattle.frame.specs.Wire.{tagNumber, bytes16, bytes32, wire, typeOf, number16, number32, fields, typedAs, decoded, encoded, encodeReply, InRange, Bytes, Reading, header, version, type, size}
 use Rattle.frame.specs.declared.header.Header.{Header}
 use Rattle.frame.specs.declared.header.Tag.{Tag}
 use Rattle.frame.specs.declared.header.Tag.the-variants.{Data, WindowUpdate, Ping, GoAway}
@@ -20,6 +18,7 @@ use Rattle.frame.specs.declared.header.Typed.{Typed}
 use Rattle.frame.specs.declared.header.Typed.the-variants as typed
 use Rattle.frame.specs.declared.header.Decoded.{Decoded}
 use Rattle.frame.specs.declared.header.Decoded.the-variants as found
+use Rattle.frame.specs.declared.header.Encoded.the-variants as wrote
 
 -- ---- types
 
@@ -106,6 +105,14 @@ reads-decoded b (header t n v e) = rw (eq-eqb _ _ n, eq-eqb _ _ v, e, type-of-nu
 reads-decoded b (version n v) = rw (eq-eqb _ _ n, ne-eqb _ _ v)
 reads-decoded b (type n v h) = rw (eq-eqb _ _ n, eq-eqb _ _ v, type-unknown _ h)
 reads-decoded b (size n) = rw (ne-eqb _ _ n)
+
+-- the number of `encode`'s answer
+pub encoded-reply : (b : List ℕ) → encodeReply (encoded b) ≡ cond (eqb (length b) 12) 0 14
+encoded-reply b = of (eqb (length b) 12)
+  where
+    of : (x : Bool) → encodeReply (cond x wrote.Done wrote.Size) ≡ cond x 0 14
+    of true = refl
+    of false = refl
 
 -- ---- reading what was written
 

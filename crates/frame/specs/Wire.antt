@@ -1,6 +1,6 @@
 -- The twelve bytes that stand for a header, as the Yamux specification lays them out: version, type, flags, stream id,
 -- length, each field's most significant byte first.
-use mathlib.Core.Bool.{Bool, cond}
+use mathlib.Core.Bool.{cond}
 use mathlib.Core.Path.{_≡_}
 use mathlib.Core.List.{List, [], _∷_, _++_}
 use Prim.Native.Nat.{ℕ, _+_, _*_, _/_, _%_, _<_}
