@@ -1,6 +1,7 @@
 // The message frame header: what its fields mean, the frames' headers, and the twelve bytes that stand for it.
 ghost use mathlib.Core.Path.{_≡_};
-ghost use Rattle.frame.specs.Header.{server, client, session, contains, joined, flagged, withSyn, withAck, withFin, withRst};
+ghost use Rattle.frame.specs.Header.{server, client, session, contains, joined, flagged, opening, closing, withSyn, withAck, withFin, withRst};
+ghost use Rattle.frame.specs.Wire.{tagNumber, typeOf, number16, number32, wire, decoded, encoded, written};
 ghost use Rattle.frame.specs.Header.{dataHeader, windowUpdateHeader, pingHeader, goAwayHeader, normal, protocolError, internalError};
 
 // The ID of a stream. 0 stands for the session and no stream.
@@ -116,52 +117,54 @@ impl Header {
         self
     }
 
-    pub fn syn(mut self) -> Self
-        ensures { λ r. ⌜ r ≡ withSyn self ⌝ }
+    // The header with a flag that a GoAway lacks.
+    fn opening(mut self, flag: Flags) -> Self
+        ensures { λ r. ⌜ r ≡ opening (self .tag) flag self ⌝ }
     {
         let tag = self.tag;
         match tag {
-            Tag::Data => self.with(SYN),
-            Tag::WindowUpdate => self.with(SYN),
-            Tag::Ping => self.with(SYN),
+            Tag::Data => self.with(flag),
+            Tag::WindowUpdate => self.with(flag),
+            Tag::Ping => self.with(flag),
             Tag::GoAway => self,
         }
+    }
+
+    // The header with a flag that a Ping lacks too.
+    fn closing(mut self, flag: Flags) -> Self
+        ensures { λ r. ⌜ r ≡ closing (self .tag) flag self ⌝ }
+    {
+        let tag = self.tag;
+        match tag {
+            Tag::Data => self.with(flag),
+            Tag::WindowUpdate => self.with(flag),
+            Tag::Ping => self,
+            Tag::GoAway => self,
+        }
+    }
+
+    pub fn syn(mut self) -> Self
+        ensures { λ r. ⌜ r ≡ withSyn self ⌝ }
+    {
+        self.opening(SYN)
     }
 
     pub fn ack(mut self) -> Self
         ensures { λ r. ⌜ r ≡ withAck self ⌝ }
     {
-        let tag = self.tag;
-        match tag {
-            Tag::Data => self.with(ACK),
-            Tag::WindowUpdate => self.with(ACK),
-            Tag::Ping => self.with(ACK),
-            Tag::GoAway => self,
-        }
+        self.opening(ACK)
     }
 
     pub fn fin(mut self) -> Self
         ensures { λ r. ⌜ r ≡ withFin self ⌝ }
     {
-        let tag = self.tag;
-        match tag {
-            Tag::Data => self.with(FIN),
-            Tag::WindowUpdate => self.with(FIN),
-            Tag::Ping => self,
-            Tag::GoAway => self,
-        }
+        self.closing(FIN)
     }
 
     pub fn rst(mut self) -> Self
         ensures { λ r. ⌜ r ≡ withRst self ⌝ }
     {
-        let tag = self.tag;
-        match tag {
-            Tag::Data => self.with(RST),
-            Tag::WindowUpdate => self.with(RST),
-            Tag::Ping => self,
-            Tag::GoAway => self,
-        }
+        self.closing(RST)
     }
 
     pub fn data(id: StreamId, len: Len) -> Self
@@ -240,4 +243,113 @@ impl Header {
             length: Len(code),
         }
     }
+}
+
+impl Tag {
+    // The number that stands for the type.
+    pub fn number(self) -> u8
+        ensures { λ r. ⌜ r ≡ tagNumber self ⌝ }
+    {
+        match self {
+            Tag::Data => 0,
+            Tag::WindowUpdate => 1,
+            Tag::Ping => 2,
+            Tag::GoAway => 3,
+        }
+    }
+
+    // The type that a number stands for.
+    pub fn of(n: u8) -> Typed
+        ensures { λ r. ⌜ r ≡ typeOf n ⌝ }
+    {
+        if n == 0 {
+            return Typed::Tag(Tag::Data);
+        }
+        if n == 1 {
+            return Typed::Tag(Tag::WindowUpdate);
+        }
+        if n == 2 {
+            return Typed::Tag(Tag::Ping);
+        }
+        if n == 3 {
+            return Typed::Tag(Tag::GoAway);
+        }
+        Typed::Unknown
+    }
+}
+
+// The number of two bytes, the more significant first.
+fn number16(a: u8, b: u8) -> u16
+    ensures { λ r. ⌜ r ≡ number16 a b ⌝ }
+{
+    a as u16 * 256 + b as u16
+}
+
+// The number of four bytes, the most significant first.
+fn number32(a: u8, b: u8, c: u8, d: u8) -> u32
+    ensures { λ r. ⌜ r ≡ number32 a b c d ⌝ }
+{
+    a as u32 * 16777216 + b as u32 * 65536 + c as u32 * 256 + d as u32
+}
+
+// The header that twelve bytes are, or why they are none.
+pub fn decode(buf: &[u8]) -> Decoded
+    ensures { λ r. ⌜ r ≡ decoded (now (buf .entry)) ⌝ }
+{
+    if buf.len() != HEADER_SIZE {
+        return Decoded::Size;
+    }
+    if buf[0] != 0 {
+        return Decoded::Version(buf[0]);
+    }
+    let Typed::Tag(tag) = Tag::of(buf[1]) else {
+        return Decoded::Type(buf[1]);
+    };
+    let flags = number16(buf[2], buf[3]);
+    let stream_id = number32(buf[4], buf[5], buf[6], buf[7]);
+    let length = number32(buf[8], buf[9], buf[10], buf[11]);
+    Decoded::Header(Header {
+        tag,
+        flags: Flags(flags),
+        stream_id: StreamId(stream_id),
+        length: Len(length),
+    })
+}
+
+// The twelve bytes that stand for a header.
+fn wire(h: Header) -> [u8; 12]
+    ensures { λ r. ⌜ r ≡ wire h ⌝ }
+{
+    let tag = h.tag;
+    let kind = tag.number();
+    let f = h.flags.0;
+    let s = h.stream_id.0;
+    let n = h.length.0;
+    [
+        0,
+        kind,
+        (f / 256 % 256) as u8,
+        (f % 256) as u8,
+        (s / 16777216 % 256) as u8,
+        (s / 65536 % 256) as u8,
+        (s / 256 % 256) as u8,
+        (s % 256) as u8,
+        (n / 16777216 % 256) as u8,
+        (n / 65536 % 256) as u8,
+        (n / 256 % 256) as u8,
+        (n % 256) as u8,
+    ]
+}
+
+// Writes the header's twelve bytes into a buffer of that size, and leaves any other as it is.
+pub fn encode(h: Header, buf: &mut [u8]) -> Encoded
+    ensures { λ r. ⌜ r ≡ encoded (now (buf .entry)) ⌝ }
+    ensures { λ _. ⌜ now (buf .exit) ≡ written h (now (buf .entry)) ⌝ }
+{
+    if buf.len() != HEADER_SIZE {
+        return Encoded::Size;
+    }
+    let bytes = wire(h);
+    bytes::copy(&bytes, buf);
+    Encoded::Done
 }

@@ -1,9 +1,9 @@
 // Yamux frames: the header and its codec, and the frames that are more than one header's maker.
+mod c;
 pub mod header;
 
 ghost use mathlib.Core.Path.{_≡_};
 ghost use Rattle.frame.specs.Header.{closeStream, pingSyn};
-
 use header::Header;
 use header::Len;
 use header::StreamId;
