@@ -58,6 +58,18 @@ pub record Steps (f : FlowController) (unread now growth spare : ℕ) (g : FlowC
   pub noted : (k : ℕ) → f .«last_window_update» ≤ k → now ≤ k → g .«last_window_update» ≤ k
 
 module _ (f : FlowController) (unread now growth spare : ℕ) where
+  -- no step at all
+  pub still : Steps f unread now growth spare f growth
+  still = record {
+    rises = λ r. le-refl _;
+    within = omega arith;
+    figure = omega arith;
+    room = λ r o. o;
+    fits = λ r. r;
+    send = refl;
+    noted = λ k o n. o;
+  }
+
   abbrev new : ℕ
   new = newMaximum (f .«max_receive_window») spare
 
@@ -68,8 +80,8 @@ module _ (f : FlowController) (unread now growth spare : ℕ) where
   grant = credit (due new f unread)
 
   grants :
-    (m after : ℕ) → (Fits f → (f .«max_receive_window» ≤ m) × (m ≤ top)) → m ≤ f .«max_receive_window» + spare →
-    after ≡ growth + (m - f .«max_receive_window») → Steps f unread now growth spare (granted f m unread now) after
+      (m after : ℕ) → (Fits f → (f .«max_receive_window» ≤ m) × (m ≤ top)) → m ≤ f .«max_receive_window» + spare →
+      after ≡ growth + (m - f .«max_receive_window») → Steps f unread now growth spare (granted f m unread now) after
   grants m after h w e = record {
     rises = λ r. h r .0;
     within = w;
@@ -85,15 +97,7 @@ module _ (f : FlowController) (unread now growth spare : ℕ) where
   outcome b p = cond b (paced p f unread now growth spare) (record { flow = f; growth = growth; update = update.NotDue })
 
   outcomes : (b : Bool) (p : Pace) → Steps f unread now growth spare (outcome b p .flow) (outcome b p .growth)
-  outcomes false p = record {
-    rises = λ r. le-refl _;
-    within = omega arith;
-    figure = omega arith;
-    room = λ r o. o;
-    fits = λ r. r;
-    send = refl;
-    noted = λ k o n. o;
-  }
+  outcomes false p = still
   outcomes true Unmeasured = grants _ _ (λ r. (le-refl _, r .1)) (omega arith) (omega arith)
   outcomes true Late = grants _ _ (λ r. (le-refl _, r .1)) (omega arith) (omega arith)
   outcomes true Early =
