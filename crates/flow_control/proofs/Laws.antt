@@ -8,7 +8,8 @@ use native.Mathlib.Nat.{le-refl}
 use Rattle.frame.specs.Header.{initialWindow}
 use Rattle.frame.specs.declared.header.Credit.{Credit}
 use Rattle.rtt.specs.declared.RoundTrip.{RoundTrip}
-use Rattle.flow_control.specs.Windows.{top, credit, due, newMaximum, budget, granted, isDue, paceOf, paced, nextWindowUpdate, withReceive}
+use Rattle.flow_control.specs.Windows.{top, credit, due, paceOf, budget, newMaximum, granted}
+use Rattle.flow_control.specs.Windows.{paced, isDue, nextWindowUpdate, withReceive}
 use Rattle.flow_control.specs.declared.FlowController.{FlowController}
 use Rattle.flow_control.specs.declared.Pace.{Pace}
 use Rattle.flow_control.specs.declared.Pace.the-variants.{Unmeasured, Late, Early}
@@ -148,7 +149,9 @@ refused true f e = cc
 refused false f e = refl
 
 -- a body that is queued takes from the window what it adds to the unread bytes
-pub consumed-room : (f : FlowController) (n unread : ℕ) → n ≤ f .«receive_window» → Room f unread → Room (withReceive f (f .«receive_window» - n)) (unread + n)
+pub consumed-room :
+    (f : FlowController) (n unread : ℕ) → n ≤ f .«receive_window» → Room f unread →
+    Room (withReceive f (f .«receive_window» - n)) (unread + n)
 consumed-room f n unread h r = omega arith
 
 -- bytes that are read leave more room

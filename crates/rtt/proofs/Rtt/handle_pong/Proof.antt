@@ -24,7 +24,8 @@ returns-2 c = search needs
 
 returns-3 : tie.Need-returns-3
 returns-3 c =
-    rw (c .before .before .before .before .state .given .1, eq-eqb _ _ (c .before .before .if1 .left), c .before .elapsed .ensures, c .later .ensures)
+    let p = c .before .before in
+    rw (p .before .before .state .given .1, eq-eqb _ _ (p .if1 .left), c .before .elapsed .ensures, c .later .ensures)
 
 pub handle-pong-spec : {M : Type 1} → statement M
 handle-pong-spec =

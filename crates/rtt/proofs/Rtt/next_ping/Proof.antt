@@ -24,7 +24,8 @@ returns-2 c = rw (c .enum-told .given .1)
 
 returns-3 : tie.Need-returns-3
 returns-3 c =
-    rw (c .before .before .before .before .state .given .1, le-leb _ _ (c .before .before .if1 .left), c .before .ping .ensures, c .wrapping-add-u32 .ensures)
+    let p = c .before .before in
+    rw (p .before .before .state .given .1, le-leb _ _ (p .if1 .left), c .before .ping .ensures, c .wrapping-add-u32 .ensures)
 
 pub next-ping-spec : {M : Type 1} → statement M
 next-ping-spec =

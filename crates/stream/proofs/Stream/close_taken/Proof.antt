@@ -20,10 +20,18 @@ with-flag-requires : tie.Need-with-flag-requires
 with-flag-requires c κs = search needs
 
 returns : tie.Need-returns
-returns c = rw (c .with-flag .ensures, c .before .before .with-state .ensures, c .before .before .before .update .ensures, c .before .before .before .before .close-stream .ensures, c .before .before .before .before .before .owes-ack .ensures, sym (c .before .before .before .before .before .owes-ack .ensures) ∙ c .before .if1 .taken)
+returns c =
+    let w = c .before .before in
+    let o = w .before .before .before .owes-ack .ensures in
+    let ack = sym o ∙ c .before .if1 .taken in
+    rw (c .with-flag .ensures, w .with-state .ensures, w .before .update .ensures, w .before .before .close-stream .ensures, o, ack)
 
 returns-2 : tie.Need-returns-2
-returns-2 c = rw (c .before .with-state .ensures, c .before .before .update .ensures, c .before .before .before .close-stream .ensures, c .before .before .before .before .owes-ack .ensures, sym (c .before .before .before .before .owes-ack .ensures) ∙ c .if1 .left)
+returns-2 c =
+    let w = c .before in
+    let o = w .before .before .before .owes-ack .ensures in
+    let none = sym o ∙ c .if1 .left in
+    rw (w .with-state .ensures, w .before .update .ensures, w .before .before .close-stream .ensures, o, none)
 
 pub close-taken-spec : {M : Type 1} → statement M
 close-taken-spec =

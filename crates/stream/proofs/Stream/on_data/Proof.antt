@@ -17,8 +17,10 @@ enum-told c = search needs
 
 returns : tie.Need-returns
 returns c =
-    let a = c .before .before .before .args in
-    rw (refused (leb (a .body-len) (a .self .flow .«receive_window»)) _ (sym (c .before .before .consume-receive-window .ensures) ∙ c .enum-told .given .1))
+    let p = c .before .before in
+    let a = p .before .args in
+    let fits = leb (a .body-len) (a .self .flow .«receive_window») in
+    rw (refused fits _ (sym (p .consume-receive-window .ensures) ∙ c .enum-told .given .1))
 
 finish-requires : tie.Need-finish-requires
 finish-requires c κs = search needs
@@ -34,9 +36,12 @@ with-flow-requires c κs = search needs
 
 returns-2 : tie.Need-returns-2
 returns-2 c =
-    let a = c .before .before .before .before .before .before .before .before .args in
-    let d = done (leb (a .body-len) (a .self .flow .«receive_window»)) _ _ (sym (c .before .before .before .before .before .before .before .consume-receive-window .ensures) ∙ c .before .before .before .before .before .changed .given .1) in
-    rw (d .0, c .with-flow .ensures, c .before .with-waits .ensures, c .before .before .with-state .ensures, c .before .before .before .finish .ensures, d .1)
+    let w = c .before .before in
+    let p = w .before .before .before in
+    let a = p .before .before .before .args in
+    let fits = leb (a .body-len) (a .self .flow .«receive_window») in
+    let d = done fits _ _ (sym (p .before .before .consume-receive-window .ensures) ∙ p .changed .given .1) in
+    rw (d .0, c .with-flow .ensures, c .before .with-waits .ensures, w .with-state .ensures, w .before .finish .ensures, d .1)
 
 pub on-data-spec : {M : Type 1} → statement M
 on-data-spec =

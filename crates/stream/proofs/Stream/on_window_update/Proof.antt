@@ -19,8 +19,10 @@ enum-told c = search needs
 
 returns : tie.Need-returns
 returns c =
-    let a = c .before .before .before .args in
-    rw (refused (leb (a .self .flow .«send_window» + a .credit .0) top) _ (sym (c .before .before .increase-send-window-by .ensures) ∙ c .enum-told .given .1))
+    let p = c .before .before in
+    let a = p .before .args in
+    let fits = leb (a .self .flow .«send_window» + a .credit .0) top in
+    rw (refused fits _ (sym (p .increase-send-window-by .ensures) ∙ c .enum-told .given .1))
 
 finish-requires : tie.Need-finish-requires
 finish-requires c κs = search needs
@@ -36,18 +38,26 @@ with-waits-requires c κs = search needs
 
 returns-2 : tie.Need-returns-2
 returns-2 c =
-    let a = c .before .before .before .before .before .before .before .before .before .args in
-    let d = done (leb (a .self .flow .«send_window» + a .credit .0) top) _ _ (sym (c .before .before .before .before .before .before .before .before .increase-send-window-by .ensures) ∙ c .before .before .before .before .before .before .changed .given .1) in
-    rw (d .0, c .with-waits .ensures, c .before .before .with-flow .ensures, c .before .before .before .with-state .ensures, c .before .before .before .before .finish .ensures, d .1, c .before .if1 .taken)
+    let w = c .before .before in
+    let p = w .before .before .before .before in
+    let a = p .before .before .before .args in
+    let fits = leb (a .self .flow .«send_window» + a .credit .0) top in
+    let d = done fits _ _ (sym (p .before .before .increase-send-window-by .ensures) ∙ p .changed .given .1) in
+    let stream = w .before .with-state .ensures in
+    rw (d .0, c .with-waits .ensures, w .with-flow .ensures, stream, w .before .before .finish .ensures, d .1, c .before .if1 .taken)
 
 with-waits-requires-2 : tie.Need-with-waits-requires-2
 with-waits-requires-2 c κs = search needs
 
 returns-3 : tie.Need-returns-3
 returns-3 c =
-    let a = c .before .before .before .before .before .before .before .before .before .args in
-    let d = done (leb (a .self .flow .«send_window» + a .credit .0) top) _ _ (sym (c .before .before .before .before .before .before .before .before .increase-send-window-by .ensures) ∙ c .before .before .before .before .before .before .changed .given .1) in
-    rw (d .0, c .with-waits2 .ensures, c .before .before .with-flow .ensures, c .before .before .before .with-state .ensures, c .before .before .before .before .finish .ensures, d .1, c .before .if1 .left)
+    let w = c .before .before in
+    let p = w .before .before .before .before in
+    let a = p .before .before .before .args in
+    let fits = leb (a .self .flow .«send_window» + a .credit .0) top in
+    let d = done fits _ _ (sym (p .before .before .increase-send-window-by .ensures) ∙ p .changed .given .1) in
+    let stream = w .before .with-state .ensures in
+    rw (d .0, c .with-waits2 .ensures, w .with-flow .ensures, stream, w .before .before .finish .ensures, d .1, c .before .if1 .left)
 
 pub on-window-update-spec : {M : Type 1} → statement M
 on-window-update-spec =

@@ -16,7 +16,9 @@ with-flow-requires : tie.Need-with-flow-requires
 with-flow-requires c κs = search needs
 
 returns : tie.Need-returns
-returns c = rw (c .with-flow .ensures, c .before .with-flag .ensures, c .before .before .after .ensures, c .before .before .before .update-frame .ensures)
+returns c =
+    let w = c .before .before in
+    rw (c .with-flow .ensures, c .before .with-flag .ensures, w .after .ensures, w .before .update-frame .ensures)
 
 pub step-taken-spec : {M : Type 1} → statement M
 step-taken-spec =

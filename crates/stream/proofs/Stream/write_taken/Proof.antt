@@ -19,8 +19,10 @@ enum-told c = search needs
 
 returns : tie.Need-returns
 returns c =
-    let a = c .before .before .before .args in
-    let over = leb-false (a .n) (a .self .flow .«send_window») (refused _ _ (sym (c .before .before .consume-send-window .ensures) ∙ c .enum-told .given .1)) in
+    let p = c .before .before in
+    let a = p .before .args in
+    let none = refused _ _ (sym (p .consume-send-window .ensures) ∙ c .enum-told .given .1) in
+    let over = leb-false (a .n) (a .self .flow .«send_window») none in
     absurd (omega arith)
 
 data-requires : tie.Need-data-requires
@@ -43,17 +45,26 @@ acknowledge-requires c κs = search needs
 
 returns-2 : tie.Need-returns-2
 returns-2 c =
-    let a = c .before .before .before .before .before .before .before .before .before .before .before .args in
-    let d = done (leb (a .n) (a .self .flow .«send_window»)) _ _ (sym (c .before .before .before .before .before .before .before .before .before .before .consume-send-window .ensures) ∙ c .before .before .before .before .before .before .before .before .changed .given .1) in
+    let w = c .before .before .before in
+    let h = w .before .before in
+    let p = h .before .before .before in
+    let a = p .before .before .before .args in
+    let fits = leb (a .n) (a .self .flow .«send_window») in
+    let d = done fits _ _ (sym (p .before .before .consume-send-window .ensures) ∙ p .changed .given .1) in
     let ack = sym (c .before .before .owes-ack .ensures) ∙ c .before .if1 .taken in
-    rw (c .acknowledge .ensures, c .before .before .before .with-flow .ensures, c .before .before .before .before .with-flag .ensures, c .before .before .before .before .before .add-to .ensures, c .before .before .before .before .before .before .«data» .ensures, d .1, ack)
+    let stream = w .before .with-flag .ensures in
+    rw (c .acknowledge .ensures, w .with-flow .ensures, stream, h .add-to .ensures, h .before .«data» .ensures, d .1, ack)
 
 returns-3 : tie.Need-returns-3
 returns-3 c =
-    let a = c .before .before .before .before .before .before .before .before .before .before .args in
-    let d = done (leb (a .n) (a .self .flow .«send_window»)) _ _ (sym (c .before .before .before .before .before .before .before .before .before .consume-send-window .ensures) ∙ c .before .before .before .before .before .before .before .changed .given .1) in
-    let ack = sym (c .before .owes-ack .ensures) ∙ c .if1 .left in
-    rw (c .before .before .with-flow .ensures, c .before .before .before .with-flag .ensures, c .before .before .before .before .add-to .ensures, c .before .before .before .before .before .«data» .ensures, d .1, ack)
+    let w = c .before .before in
+    let h = w .before .before in
+    let p = h .before .before .before in
+    let a = p .before .before .before .args in
+    let fits = leb (a .n) (a .self .flow .«send_window») in
+    let d = done fits _ _ (sym (p .before .before .consume-send-window .ensures) ∙ p .changed .given .1) in
+    let none = sym (c .before .owes-ack .ensures) ∙ c .if1 .left in
+    rw (w .with-flow .ensures, w .before .with-flag .ensures, h .add-to .ensures, h .before .«data» .ensures, d .1, none)
 
 pub write-taken-spec : {M : Type 1} → statement M
 write-taken-spec =
