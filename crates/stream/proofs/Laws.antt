@@ -5,15 +5,18 @@ use Prim.Native.Nat.{ℕ, _+_, _-_, _<_, _≤_}
 use lib.Dec.{leb, eqb}
 use borrow.Author.Tests.{leb-true, leb-false, eqb-true, eqb-false}
 use native.Mathlib.Omega.{arith}
-use Rattle.frame.specs.Header.{dataHeader}
+use Rattle.frame.specs.Header.{dataHeader, windowUpdateHeader}
 use Rattle.frame.specs.declared.header.Credit.{Credit}
 use Rattle.frame.specs.declared.header.Header.{Header}
 use Rattle.frame.specs.declared.header.StreamId.{StreamId}
 use Rattle.rtt.specs.declared.RoundTrip.{RoundTrip}
 use Rattle.flow_control.specs.Windows.{top, budget, nextWindowUpdate, withSend}
-use Rattle.flow_control.proofs.Laws.{Fits, Steps, steps, still}
+use Rattle.flow_control.specs.declared.Update.{Update}
+use Rattle.flow_control.specs.declared.Update.the-variants as update
+use Rattle.flow_control.proofs.Laws.{Fits, Steps, creditOf, credited, steps, still}
 use Rattle.stream.specs.States.{canRead, canWrite, acknowledge}
-use Rattle.stream.specs.Streams.{wakes, withWaits, dataTaken, onData, updateTaken, onWindowUpdate, stepTaken, sendWindowUpdate}
+use Rattle.stream.specs.Streams.{wakes, withWaits, dataTaken, onData, updateTaken, onWindowUpdate}
+use Rattle.stream.specs.Streams.{updateFrame, stepTaken, sendWindowUpdate}
 use Rattle.stream.specs.Streams.{readEnd, writeCount, write, closeIn, close, addFlag, owesAck, made}
 use Rattle.stream.specs.declared.State.{State}
 use Rattle.stream.specs.declared.State.the-variants.{Open, SendClosed, RecvClosed, Closed}
@@ -22,7 +25,8 @@ use Rattle.stream.specs.declared.Flag.the-variants as owed
 use Rattle.stream.specs.declared.Stream.{Stream}
 use Rattle.stream.specs.declared.Wakes.{Wakes}
 use Rattle.stream.specs.declared.Received.the-variants.{Taken, ProtocolError}
-use Rattle.stream.specs.declared.Sent.the-variants.{Nothing}
+use Rattle.stream.specs.declared.Sent.{Sent}
+use Rattle.stream.specs.declared.Sent.the-variants.{Frame, Nothing}
 use Rattle.stream.specs.declared.Step.the-variants.{Skipped}
 use Rattle.stream.specs.declared.Updated.{Updated}
 use Rattle.stream.specs.declared.Reading.{Reading}
@@ -80,6 +84,23 @@ module _ (s : Stream) (c : Credit) (fin : Bool) where
 
 -- ---- read
 
+-- the bytes that a frame grants
+abbrev pub creditSent : Sent → ℕ
+creditSent Nothing = 0
+creditSent (Frame h) = h .length .0
+
+flagged-credit : (f : Flag) (id : StreamId) (c : Credit) → addFlag f (windowUpdateHeader id c) .length .0 ≡ c .0
+flagged-credit owed.None id c = refl
+flagged-credit owed.Syn id c = refl
+flagged-credit owed.Ack id c = refl
+
+frame-credit : (s : Stream) (u : Update) → creditSent (updateFrame s u) ≡ creditOf u
+frame-credit s update.NotDue = refl
+frame-credit s (update.Unmeasured c) = flagged-credit (s .flag) (s .id) c
+frame-credit s (update.Late c) = flagged-credit (s .flag) (s .id) c
+frame-credit s (update.Doubled c) = flagged-credit (s .flag) (s .id) c
+frame-credit s (update.HeldDown c) = flagged-credit (s .flag) (s .id) c
+
 -- all but the flag owed and the windows stays, and the laws of the window step hold of the stream's windows
 pub record Kept (s : Stream) (unread now growth spare : ℕ) (u : Updated) : Type 0 where
   pub same-id : u .stream .id ≡ s .id
@@ -113,6 +134,18 @@ module _ (s : Stream) (unread now : ℕ) (rt : RoundTrip) (limit m growth : ℕ)
 
   pub updated : Kept s unread now growth (budget limit m growth) (sendWindowUpdate s unread now rt limit m growth)
   updated = outcomes (canRead (s .state))
+
+  credits : (b : Bool) → outcome b .stream .flow .«receive_window» ≡ s .flow .«receive_window» + creditSent (outcome b .sent)
+  credits true =
+      let f = frame-credit s (nextWindowUpdate (s .flow) unread now rt limit m growth .update) in
+      omega (arith, f, credited (s .flow) unread now rt limit m growth)
+  credits false = omega arith
+
+  -- the receive window rises by what the frame that is sent grants
+  pub updated-credit :
+      sendWindowUpdate s unread now rt limit m growth .stream .flow .«receive_window» ≡
+      s .flow .«receive_window» + creditSent (sendWindowUpdate s unread now rt limit m growth .sent)
+  updated-credit = credits (canRead (s .state))
 
   pub updated-in-range : InRange s → InRange (sendWindowUpdate s unread now rt limit m growth .stream)
   updated-in-range h = (rw (updated .same-id) (h .0), updated .stepped .fits (h .1))
