@@ -1,7 +1,6 @@
 // Round trips: when a ping is due, and what a pong says.
 ghost use mathlib.Core.Path.{_≡_};
 ghost use Rattle.rtt.specs.Pings.{start, nextPing, handlePong, elapsed, later};
-
 use frame::header::Header;
 
 // Whether a pong is awaited, and since when; or when the next ping is due.
@@ -51,7 +50,11 @@ fn later(now: u64, interval: u64) -> u64
     ensures { λ r. ⌜ r ≡ later now interval ⌝ }
 {
     let left = 18446744073709551615 - now;
-    if interval < left { now + interval } else { 18446744073709551615 }
+    if interval < left {
+        now + interval
+    } else {
+        18446744073709551615
+    }
 }
 
 impl Rtt {

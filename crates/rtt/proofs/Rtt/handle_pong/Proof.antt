@@ -1,40 +1,31 @@
+-- `rtt::Rtt::handle_pong` meets its contract. Assumes nothing.
 use borrow.Author.Needs.{needs}
 use borrow.Author.Tests.{eq-eqb, ne-eqb}
 use Rattle.rtt.proofs.Rtt.handle_pong.Statement.{statement}
 use Rattle.rtt.proofs.Rtt.handle_pong.Tie as tie
-use Rattle.rtt.proofs.Rtt.handle_pong.Reads as reads
-use Rattle.rtt.proofs.Rtt.handle_pong.Lts as lts
-use Rattle.rtt.proofs.elapsed.Reads as elapsed-reads
-use Rattle.rtt.proofs.later.Reads as later-reads
 
--- src/lib.rt:108:46
 enum-told : tie.Need-enum-told
 enum-told c = search needs
 
--- src/lib.rt:109:38
 enum-known-state : tie.Need-enum-known-state
 enum-known-state c = search needs
 
--- src/lib.rt:111:21
 returns : tie.Need-returns
 returns c = rw (c .before .before .state .given .1, ne-eqb _ _ (c .if1 .taken))
 
--- src/lib.rt:113:21
 elapsed-requires : tie.Need-elapsed-requires
 elapsed-requires c κs = search needs
 
--- src/lib.rt:114:21
 later-requires : tie.Need-later-requires
 later-requires c κs = search needs
 
--- src/lib.rt:103:5
 returns-2 : tie.Need-returns-2
 returns-2 c = search needs
 
--- src/lib.rt:103:5
 returns-3 : tie.Need-returns-3
 returns-3 c =
-    rw (c .before .before .before .before .state .given .1, eq-eqb _ _ (c .before .before .if1 .left), c .before .elapsed .ensures, c .later .ensures)
+    let p = c .before .before in
+    rw (p .before .before .state .given .1, eq-eqb _ _ (p .if1 .left), c .before .elapsed .ensures, c .later .ensures)
 
 pub handle-pong-spec : {M : Type 1} → statement M
 handle-pong-spec =

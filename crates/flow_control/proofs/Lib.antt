@@ -1,0 +1,2 @@
+-- Laws of the windows, for the layers above.
+pub mod Laws

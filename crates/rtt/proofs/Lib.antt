@@ -1,0 +1,2 @@
+-- Laws of the pings, for the layers above.
+pub mod Laws

@@ -1,0 +1,248 @@
+-- What each rule leaves in a stream's id, windows and maximum. Assumes nothing.
+use mathlib.Core.Path.{_≡_, refl}
+use mathlib.Core.Bool.{Bool, true, false, cond}
+use Prim.Native.Nat.{ℕ, _+_, _-_, _<_, _≤_}
+use lib.Dec.{leb, eqb}
+use borrow.Author.Tests.{leb-true, leb-false, eqb-true, eqb-false}
+use native.Mathlib.Omega.{arith}
+use Rattle.frame.specs.Header.{dataHeader, windowUpdateHeader}
+use Rattle.frame.specs.declared.header.Credit.{Credit}
+use Rattle.frame.specs.declared.header.Header.{Header}
+use Rattle.frame.specs.declared.header.StreamId.{StreamId}
+use Rattle.rtt.specs.declared.RoundTrip.{RoundTrip}
+use Rattle.flow_control.specs.Windows.{top, budget, nextWindowUpdate, withSend}
+use Rattle.flow_control.specs.declared.Update.{Update}
+use Rattle.flow_control.specs.declared.Update.the-variants as update
+use Rattle.flow_control.proofs.Laws.{Fits, Steps, creditOf, credited, steps, still}
+use Rattle.stream.specs.States.{canRead, canWrite, acknowledge}
+use Rattle.stream.specs.Streams.{wakes, withWaits, dataTaken, onData, updateTaken, onWindowUpdate}
+use Rattle.stream.specs.Streams.{updateFrame, stepTaken, sendWindowUpdate}
+use Rattle.stream.specs.Streams.{readEnd, writeCount, write, closeIn, close, addFlag, owesAck, made}
+use Rattle.stream.specs.declared.State.{State}
+use Rattle.stream.specs.declared.State.the-variants.{Open, SendClosed, RecvClosed, Closed}
+use Rattle.stream.specs.declared.Flag.{Flag}
+use Rattle.stream.specs.declared.Flag.the-variants as owed
+use Rattle.stream.specs.declared.Stream.{Stream}
+use Rattle.stream.specs.declared.Wakes.{Wakes}
+use Rattle.stream.specs.declared.Received.the-variants.{Taken, ProtocolError}
+use Rattle.stream.specs.declared.Sent.{Sent}
+use Rattle.stream.specs.declared.Sent.the-variants.{Frame, Nothing}
+use Rattle.stream.specs.declared.Step.the-variants.{Skipped}
+use Rattle.stream.specs.declared.Updated.{Updated}
+use Rattle.stream.specs.declared.Reading.{Reading}
+use Rattle.stream.specs.declared.Reading.the-variants as reading
+use Rattle.stream.specs.declared.Written.the-variants as written
+
+-- id, windows and maximum are numbers of 32 bits
+abbrev pub InRange : Stream → Type 0
+InRange s = (s .id .0 ≤ top) × Fits (s .flow)
+
+-- ---- frames received
+
+either-taken :
+    (b : Bool) (s t : Stream) (v w : Wakes) → cond b (Taken s v) ProtocolError ≡ Taken t w →
+    (b ≡ true) × (t ≡ s) × (w ≡ v)
+either-taken true s t v w e = (refl, cc, cc)
+either-taken false s t v w e = (cc, cc, cc)
+
+either-error : (b : Bool) (s : Stream) (v : Wakes) → cond b (Taken s v) ProtocolError ≡ ProtocolError → b ≡ false
+either-error true s v e = cc
+either-error false s v e = refl
+
+module _ (s : Stream) (n : ℕ) (fin : Bool) where
+  -- a body that is taken fits the receive window
+  pub data-taken :
+      (t : Stream) (w : Wakes) → onData s n fin ≡ Taken t w →
+      (n ≤ s .flow .«receive_window») × (t ≡ dataTaken s n fin) × (w ≡ wakes (s .reader) false)
+  data-taken t w e =
+      let h = either-taken (leb n (s .flow .«receive_window»)) (dataTaken s n fin) t (wakes (s .reader) false) w e in
+      (leb-true _ _ (h .0), h .1, h .2)
+
+  pub data-refused : onData s n fin ≡ ProtocolError → s .flow .«receive_window» < n
+  data-refused e = leb-false _ _ (either-error (leb n (s .flow .«receive_window»)) (dataTaken s n fin) (wakes (s .reader) false) e)
+
+  pub data-in-range : InRange s → InRange (dataTaken s n fin)
+  data-in-range h = (h .0, (omega arith, h .1 .1, h .1 .2))
+
+module _ (s : Stream) (c : Credit) (fin : Bool) where
+  -- a credit that is taken leaves a send window of 32 bits
+  pub update-taken :
+      (t : Stream) (w : Wakes) → onWindowUpdate s c fin ≡ Taken t w →
+      (s .flow .«send_window» + c .0 ≤ top) × (t ≡ updateTaken s c fin) × (w ≡ wakes (cond fin (s .reader) false) (s .writer))
+  update-taken t w e =
+      let v = wakes (cond fin (s .reader) false) (s .writer) in
+      let h = either-taken (leb (s .flow .«send_window» + c .0) top) (updateTaken s c fin) t v w e in
+      (leb-true _ _ (h .0), h .1, h .2)
+
+  pub update-refused : onWindowUpdate s c fin ≡ ProtocolError → top < s .flow .«send_window» + c .0
+  update-refused e =
+      leb-false _ _
+      (either-error (leb (s .flow .«send_window» + c .0) top) (updateTaken s c fin) (wakes (cond fin (s .reader) false) (s .writer)) e)
+
+  pub update-in-range : s .flow .«send_window» + c .0 ≤ top → InRange s → InRange (updateTaken s c fin)
+  update-in-range r h = (h .0, (h .1 .0, h .1 .1, r))
+
+-- ---- read
+
+-- the bytes that a frame grants
+abbrev pub creditSent : Sent → ℕ
+creditSent Nothing = 0
+creditSent (Frame h) = h .length .0
+
+flagged-credit : (f : Flag) (id : StreamId) (c : Credit) → addFlag f (windowUpdateHeader id c) .length .0 ≡ c .0
+flagged-credit owed.None id c = refl
+flagged-credit owed.Syn id c = refl
+flagged-credit owed.Ack id c = refl
+
+frame-credit : (s : Stream) (u : Update) → creditSent (updateFrame s u) ≡ creditOf u
+frame-credit s update.NotDue = refl
+frame-credit s (update.Unmeasured c) = flagged-credit (s .flag) (s .id) c
+frame-credit s (update.Late c) = flagged-credit (s .flag) (s .id) c
+frame-credit s (update.Doubled c) = flagged-credit (s .flag) (s .id) c
+frame-credit s (update.HeldDown c) = flagged-credit (s .flag) (s .id) c
+
+-- all but the flag owed and the windows stays, and the laws of the window step hold of the stream's windows
+pub record Kept (s : Stream) (unread now growth spare : ℕ) (u : Updated) : Type 0 where
+  pub same-id : u .stream .id ≡ s .id
+  pub same-state : u .stream .state ≡ s .state
+  pub same-reader : u .stream .reader ≡ s .reader
+  pub same-writer : u .stream .writer ≡ s .writer
+  pub stepped : Steps (s .flow) unread now growth spare (u .stream .flow) (u .growth)
+
+module _ (s : Stream) (unread now : ℕ) (rt : RoundTrip) (limit m growth : ℕ) where
+  abbrev outcome : Bool → Updated
+  outcome b =
+      cond b
+      (stepTaken s (nextWindowUpdate (s .flow) unread now rt limit m growth))
+      (record { stream = s; growth = growth; step = Skipped; sent = Nothing })
+
+  outcomes : (b : Bool) → Kept s unread now growth (budget limit m growth) (outcome b)
+  outcomes true = record {
+    same-id = refl;
+    same-state = refl;
+    same-reader = refl;
+    same-writer = refl;
+    stepped = steps (s .flow) unread now rt limit m growth;
+  }
+  outcomes false = record {
+    same-id = refl;
+    same-state = refl;
+    same-reader = refl;
+    same-writer = refl;
+    stepped = still (s .flow) unread now growth (budget limit m growth);
+  }
+
+  pub updated : Kept s unread now growth (budget limit m growth) (sendWindowUpdate s unread now rt limit m growth)
+  updated = outcomes (canRead (s .state))
+
+  credits : (b : Bool) → outcome b .stream .flow .«receive_window» ≡ s .flow .«receive_window» + creditSent (outcome b .sent)
+  credits true =
+      let f = frame-credit s (nextWindowUpdate (s .flow) unread now rt limit m growth .update) in
+      omega (arith, f, credited (s .flow) unread now rt limit m growth)
+  credits false = omega arith
+
+  -- the receive window rises by what the frame that is sent grants
+  pub updated-credit :
+      sendWindowUpdate s unread now rt limit m growth .stream .flow .«receive_window» ≡
+      s .flow .«receive_window» + creditSent (sendWindowUpdate s unread now rt limit m growth .sent)
+  updated-credit = credits (canRead (s .state))
+
+  pub updated-in-range : InRange s → InRange (sendWindowUpdate s unread now rt limit m growth .stream)
+  updated-in-range h = (rw (updated .same-id) (h .0), updated .stepped .fits (h .1))
+
+abbrev pub readStream : Reading → Stream
+readStream (reading.Done s) = s
+readStream (reading.Wait s) = s
+
+-- id and windows stay
+abbrev pub Same : Stream → Stream → Type 0
+Same s t = (t .id ≡ s .id) × (t .flow ≡ s .flow)
+
+pub same-in-range : (s t : Stream) → Same s t → InRange s → InRange t
+same-in-range s t e h = (rw (e .0) (h .0), rw (e .1) (h .1))
+
+either-end :
+    (b d : Bool) (s w : Stream) → Same s w →
+    Same s (readStream (cond b (cond d (reading.Wait w) (reading.Done s)) (reading.Done s)))
+either-end true true s w e = e
+either-end true false s w e = (refl, refl)
+either-end false d s w e = (refl, refl)
+
+pub read-end-same : (s : Stream) (n : ℕ) → Same s (readStream (readEnd s n))
+read-end-same s n = either-end (eqb n 0) (canRead (s .state)) s (withWaits s true (s .writer)) (refl, refl)
+
+-- ---- write
+
+-- the stream after a Data frame of n bytes
+abbrev pub frameTaken : Stream → ℕ → Stream
+frameTaken s n = record {
+  id = s .id;
+  flag = owed.None;
+  state = cond (owesAck (s .flag)) (acknowledge (s .state)) (s .state);
+  reader = s .reader;
+  writer = s .writer;
+  flow = withSend (s .flow) (s .flow .«send_window» - n);
+}
+
+either-frame :
+    (b d : Bool) (w s t : Stream) (h k : Header) →
+    cond b (cond d (written.Wait w) (written.Frame s h)) written.Closed ≡ written.Frame t k →
+    (b ≡ true) × (d ≡ false) × (t ≡ s) × (k ≡ h)
+either-frame true true w s t h k e = (cc, cc, cc, cc)
+either-frame true false w s t h k e = (refl, refl, cc, cc)
+either-frame false d w s t h k e = (cc, cc, cc, cc)
+
+either-wait :
+    (b d : Bool) (w t s : Stream) (h : Header) →
+    cond b (cond d (written.Wait w) (written.Frame s h)) written.Closed ≡ written.Wait t →
+    (b ≡ true) × (d ≡ true) × (t ≡ w)
+either-wait true true w t s h e = (refl, refl, cc)
+either-wait true false w t s h e = (cc, cc, cc)
+either-wait false d w t s h e = (cc, cc, cc)
+
+module _ (s : Stream) (given split : ℕ) where
+  abbrev sent : Header
+  sent = addFlag (s .flag) (dataHeader (s .id) (record { 0 = writeCount s given split }))
+
+  abbrev after : Stream
+  after = frameTaken s (writeCount s given split)
+
+  abbrev shut : Bool
+  shut = eqb (s .flow .«send_window») 0
+
+  abbrev waits : Stream
+  waits = withWaits s (s .reader) true
+
+  -- a frame goes out where writing is open and the send window is, and takes its bytes from the send window alone
+  pub write-frame :
+      (t : Stream) (h : Header) → write s given split ≡ written.Frame t h →
+      (canWrite (s .state) ≡ true) × (0 < s .flow .«send_window») × (t ≡ after) × (h ≡ sent)
+  write-frame t h e =
+      let r = either-frame (canWrite (s .state)) shut waits after t sent h e in
+      (r .0, omega (arith, eqb-false (s .flow .«send_window») 0 (r .1)), r .2, r .3)
+
+  pub write-wait :
+      (t : Stream) → write s given split ≡ written.Wait t →
+      (canWrite (s .state) ≡ true) × (s .flow .«send_window» ≡ 0) × (t ≡ waits)
+  write-wait t e =
+      let r = either-wait (canWrite (s .state)) shut waits t after sent e in
+      (r .0, eqb-true _ _ (r .1), r .2)
+
+pub written-in-range : (s : Stream) (n : ℕ) → InRange s → InRange (frameTaken s n)
+written-in-range s n h = (h .0, (h .1 .0, h .1 .1, omega arith))
+
+-- ---- close
+
+closed-same : (t : State) (s : Stream) → Same s (closeIn t s .stream)
+closed-same (Open a) s = (refl, refl)
+closed-same SendClosed s = (refl, refl)
+closed-same RecvClosed s = (refl, refl)
+closed-same Closed s = (refl, refl)
+
+pub close-same : (s : Stream) → Same s (close s .stream)
+close-same s = closed-same (s .state) s
+
+-- ---- a new stream
+
+pub made-in-range : (id : StreamId) (flag : Flag) (send now : ℕ) → id .0 ≤ top → send ≤ top → InRange (made id flag send now)
+made-in-range id flag send now h r = (h, (omega arith, omega arith, r))

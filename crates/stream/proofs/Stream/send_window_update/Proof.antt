@@ -1,0 +1,32 @@
+-- `stream::Stream::send_window_update` meets its contract. Assumes nothing.
+use borrow.Author.Tests.{not-true, not-false}
+use mathlib.Core.Path.{sym, _∙_}
+use borrow.Author.Needs.{needs}
+use Rattle.stream.proofs.Stream.send_window_update.Statement.{statement}
+use Rattle.stream.proofs.Stream.send_window_update.Tie as tie
+
+can-read-requires : tie.Need-can-read-requires
+can-read-requires c κs = search needs
+
+returns : tie.Need-returns
+returns c =
+    let can = c .before .can-read in
+    let shut = sym (can .ensures) ∙ not-true (can .result) (c .if1 .taken) in
+    rw shut
+
+next-window-update-requires : tie.Need-next-window-update-requires
+next-window-update-requires c κs = search needs
+
+step-taken-requires : tie.Need-step-taken-requires
+step-taken-requires c κs = search needs
+
+returns-2 : tie.Need-returns-2
+returns-2 c =
+    let can = c .before .before .before .before .can-read in
+    let free = sym (can .ensures) ∙ not-false (can .result) (c .before .before .before .if1 .left) in
+    rw (c .step-taken .ensures, c .before .next-window-update .ensures, free)
+
+pub send-window-update-spec : {M : Type 1} → statement M
+send-window-update-spec =
+    tie.close
+    (tie.spec can-read-requires returns next-window-update-requires step-taken-requires returns-2)
