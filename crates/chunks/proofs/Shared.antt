@@ -62,9 +62,9 @@ module _ (K P : ℕ) (l p : List ℕ) (f : Free) (qs : List Queue) (s : Shared K
             total = total-kept l p f qs (s .sound) k here l′ p′ f′ q m e ∙ s .total;
           };
           bytes =
-            contents-set l′ p′ qs k q ∙ sym (set-set (contents l′ p′ qs) k [] (content l′ p′ q))
-            ∙ ap (λ (x : List (List ℕ)). set x k (content l′ p′ q)) (sym (contents-set l′ p′ qs k none) ∙ others ∙ contents-set l p qs k none)
-            ∙ set-set (contents l p qs) k [] (content l′ p′ q);
+              contents-set l′ p′ qs k q ∙ sym (set-set (contents l′ p′ qs) k [] (content l′ p′ q))
+              ∙ ap (λ (x : List (List ℕ)). set x k (content l′ p′ q)) (sym (contents-set l′ p′ qs k none) ∙ others ∙ contents-set l p qs k none)
+              ∙ set-set (contents l p qs) k [] (content l′ p′ q);
         }
       where
         go : (l′ p′ : List ℕ) → ((j : ℕ) → (j ≡ k → ⊥) → content l′ p′ (nth qs j) ≡ content l p (nth qs j)) → (j : ℕ) → Dec (j ≡ k)

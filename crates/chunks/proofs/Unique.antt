@@ -41,10 +41,10 @@ module _ (l p : List ℕ) (f : Free) (q : Queue) (good : Good (state l p f q)) w
       let d : Drawn (state l p f q) (state l₂ p (r₂ .free) (r₂ .queue)) out out₂ (r₁ .count) = subst (λ (k : ℕ). Drawn (state l p f q) (state l₂ p (r₂ .free) (r₂ .queue)) out out₂ k) (sym n) (c .1) in
       let e₁ : r₁ .queue .unread ≡ r₂ .queue .unread = omega (arith, a .1 .left, d .left) in
       let e₂ : r₁ .queue .from ≡ r₂ .queue .from =
-          elim (decLt 0 (r₁ .queue .unread)) [
-            yes h ↦ a .1 .next h ∙ sym (d .next (omega arith))
-            | no h ↦ ap (λ (z : Queue). z .from) (x .0 (omega arith)) ∙ sym (ap (λ (z : Queue). z .from) (y .0 (omega arith)))
-          ] in (
+      elim (decLt 0 (r₁ .queue .unread)) [
+        | yes h ↦ a .1 .next h ∙ sym (d .next (omega arith))
+        | no h ↦ ap (λ (z : Queue). z .from) (x .0 (omega arith)) ∙ sym (ap (λ (z : Queue). z .from) (y .0 (omega arith)))
+      ] in (
         n,
         sym (take-append-drop (r₁ .count) out₁) ∙ ap (λ (z : List ℕ). z ++ drop (r₁ .count) out₁) (a .1 .gave ∙ sym (d .gave))
             ∙ ap (λ (z : List ℕ). take (r₁ .count) out₂ ++ z) (a .1 .rest ∙ sym (d .rest)) ∙ take-append-drop (r₁ .count) out₂,
