@@ -1,15 +1,14 @@
 -- What each call on one queue does to all that share the pool. Assumes nothing.
-use mathlib.Core.Path.{_≡_, refl, sym, ap, _∙_, subst}
+use mathlib.Core.Path.{_≡_, refl, sym, ap, _∙_}
 use mathlib.Core.List.{List, [], _∷_, _++_}
-use Prim.Native.Nat.{ℕ, zero, suc, _+_, _*_, _/_, _^_, min, _≤_, _<_}
-use native.Mathlib.Nat.{le-of-suc-le-suc, not-suc-le-zero}
+use Prim.Native.Nat.{ℕ, zero, suc, _+_, _*_, _^_, min, _≤_, _<_}
 use native.Mathlib.Omega.{arith}
 use native.Mathlib.Decide.{ℕ-discrete}
 use lib.ListN.{length, getD, take, drop, set, length-set, take-append-drop}
 use lib.Seq.{getD-set-same, getD-set-other, set-set}
-use Rattle.chunks.specs.Blocks.{BLOCK, hold, blocksFor}
-use Rattle.chunks.specs.Store.{state, size, content, none, Kept, Fed, Pushes, Drawn, Pops, Discards, Started}
-use Rattle.chunks.specs.Many.{sizes, unreads, nth, contents, lengths, Sound, Shared, Turned}
+use Rattle.chunks.specs.Blocks.{BLOCK, blocksFor}
+use Rattle.chunks.specs.Store.{state, content, none, Kept, Pushes, Pops, Discards, Started}
+use Rattle.chunks.specs.Many.{sizes, unreads, nth, contents, lengths, Shared, Turned}
 use Rattle.chunks.specs.declared.Free.{Free}
 use Rattle.chunks.specs.declared.Queue.{Queue}
 use Rattle.chunks.specs.declared.Pushed.{Pushed}

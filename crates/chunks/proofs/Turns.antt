@@ -1,23 +1,22 @@
 -- What a part that is pushed or read, all such parts in turn, and the start, do to a state. Assumes nothing.
 use mathlib.Core.Path.{_≡_, refl, sym, ap, _∙_, subst}
-use mathlib.Core.List.{List, [], _∷_, _++_, append-assoc, append-nil}
-use Prim.Native.Nat.{ℕ, zero, suc, _+_, _-_, _*_, _/_, _%_, min, _≤_, _<_}
-use native.Mathlib.Nat.{suc-inj}
+use mathlib.Core.List.{List, [], _++_, append-assoc, append-nil}
+use Prim.Native.Nat.{ℕ, suc, _+_, _-_, _*_, _/_, _%_, min, _≤_, _<_}
 use native.Mathlib.Numerals.{add-one}
 use native.Mathlib.Omega.{arith}
 use native.Mathlib.Decide.{decLt}
-use lib.ListN.{length, getD, take, drop, set, length-set, length-append, length-take, length-drop, take-append-drop}
-use lib.Seq.{getD-set-same, getD-set-other, length-take-le, take-add, take-at, drop-at}
-use Rattle.chunks.specs.Chain.{walk, hop, hit, occ, upto}
-use Rattle.chunks.specs.Blocks.{BLOCK, hold, block, bytes, put}
-use Rattle.chunks.specs.Store.{State, mk, owned, text, nodes, content, size, state, Room, Fed, Drawn, none, Started, Good, Apart, Kept}
+use lib.ListN.{length, getD, take, drop, length-append, length-take, length-drop}
+use lib.Seq.{length-take-le, take-add, take-at, drop-at}
+use Rattle.chunks.specs.Chain.{walk, occ, upto}
+use Rattle.chunks.specs.Blocks.{BLOCK, hold, bytes, put}
+use Rattle.chunks.specs.Store.{State, mk, text, content, size, state, Room, Fed, Drawn, Started, Good, Kept}
 use Rattle.chunks.specs.Steps.{opened, Opens, Skips, Read}
 use Rattle.chunks.specs.declared.Free.{Free}
 use Rattle.chunks.specs.declared.Queue.{Queue}
 use Rattle.chunks.specs.declared.Grown.{Grown}
 use Rattle.chunks.specs.declared.Pushed.{Pushed}
-use Rattle.chunks.proofs.Chains.{hit-same, occ-append, occ-more, apart, walk-same, walk-set, hop-set, walk-snoc, length-walk, joined, joined-last, bytes-append, bytes-same, length-block, length-bytes, walk-upto, upto-in, upto-past}
-use Rattle.chunks.proofs.Parts.{put-other, put-block, length-put, block-part, view-push, view-more, view-first, view-rest, part-front}
+use Rattle.chunks.proofs.Chains.{hit-same, length-walk, length-bytes, walk-upto, upto-in, upto-past}
+use Rattle.chunks.proofs.Parts.{part-front}
 use Rattle.chunks.proofs.Moves.{kept-refl, kept-trans, fill-last}
 
 -- ---- all blocks are free

@@ -1,12 +1,12 @@
 -- Two outcomes that meet a call's contract give the same bytes, counts and contents. Assumes nothing.
-use mathlib.Core.Path.{_≡_, refl, sym, ap, _∙_, subst}
+use mathlib.Core.Path.{_≡_, sym, ap, _∙_, subst}
 use mathlib.Core.List.{List, _++_}
-use Prim.Native.Nat.{ℕ, _+_, _%_, _<_}
+use Prim.Native.Nat.{ℕ, _+_}
 use native.Mathlib.Omega.{arith}
 use native.Mathlib.Decide.{decLt}
 use lib.ListN.{length, take, drop, take-append-drop}
-use Rattle.chunks.specs.Blocks.{BLOCK, hold}
-use Rattle.chunks.specs.Store.{State, state, nodes, frees, content, none, Good, Room, Fed, Pushes, Drawn, Pops, Discards, Alike}
+use Rattle.chunks.specs.Blocks.{hold}
+use Rattle.chunks.specs.Store.{state, frees, Good, Room, Pushes, Drawn, Pops, Discards, Alike}
 use Rattle.chunks.specs.declared.Free.{Free}
 use Rattle.chunks.specs.declared.Queue.{Queue}
 use Rattle.chunks.specs.declared.Pushed.{Pushed}
