@@ -1,7 +1,7 @@
 -- What a part that is pushed or read, all such parts in turn, and the start, do to a state. Assumes nothing.
 use mathlib.Core.Path.{_≡_, refl, sym, ap, _∙_, subst}
 use mathlib.Core.List.{List, [], _++_, append-assoc, append-nil}
-use Prim.Native.Nat.{ℕ, suc, _+_, _-_, _*_, _/_, _%_, min, _≤_, _<_}
+use Prim.Native.Nat.{ℕ, suc, _+_, _-_, _*_, _/_, _%_, min, _≤_, _<_, _^_}
 use native.Mathlib.Numerals.{add-one}
 use native.Mathlib.Omega.{arith}
 use native.Mathlib.Decide.{decLt}
@@ -21,7 +21,7 @@ use Rattle.chunks.proofs.Moves.{kept-refl, kept-trans, fill-last}
 
 -- ---- all blocks are free
 
-pub started : (l : List ℕ) (n : ℕ) (f : Free) → f .head ≡ 0 → f .count ≡ n → n ≡ min (length l) 4294967295 → ((k : ℕ) → k < n → getD l k 0 ≡ k + 1) → Started l f
+pub started : (l : List ℕ) (n : ℕ) (f : Free) → f .head ≡ 0 → f .count ≡ n → n ≡ min (length l) (2 ^ 32 - 1) → ((k : ℕ) → k < n → getD l k 0 ≡ k + 1) → Started l f
 started l n f e₁ e₂ e₃ h =
     let w : walk l (f .head) (f .count) ≡ upto 0 n = rw (e₁, e₂) (walk-upto l 0 n (λ k p q. h k (omega arith) ∙ add-one k)) in
     let lo : (i : ℕ) → i < n → occ i (walk l (f .head) (f .count)) ≡ 1 = λ i q. ap (occ i) w ∙ upto-in i 0 n (omega arith) (omega arith) in
@@ -47,7 +47,7 @@ started l n f e₁ e₂ e₃ h =
 
 -- ---- a part is pushed
 
-pub fed : (l p l′ p′ : List ℕ) (f : Free) (q : Queue) (g : Grown) (b : List ℕ) (used u : ℕ) → used ≡ (q .from + q .unread) % BLOCK → u ≡ (q .unread + length b) % 4294967296
+pub fed : (l p l′ p′ : List ℕ) (f : Free) (q : Queue) (g : Grown) (b : List ℕ) (used u : ℕ) → used ≡ (q .from + q .unread) % BLOCK → u ≡ (q .unread + length b) % (2 ^ 32)
     → used + length b ≤ BLOCK → 0 < length b → Opens l f q l′ g → (g .tail * BLOCK + used + length b ≤ length p → p′ ≡ put p (g .tail * BLOCK + used) b)
     → Good (state l p f q) → Room (state l p f q) (length b) → Fed (state l p f q) (state l′ p′ (g .free) (record { head = g .head; tail = g .tail; from = q .from; unread = u })) b
 fed l p l′ p′ f q g b used u e₁ e₂ h some opens puts good room =
