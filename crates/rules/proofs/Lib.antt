@@ -1,0 +1,2 @@
+-- Laws and worked examples of the rules.
+pub mod Examples
