@@ -105,12 +105,8 @@ pub fn check(trace: &Trace, second: &Second, tally: &mut Tally) {
         return tally.add(trace, &left);
     }
     println!("difference after {} traces, {} events without one", tally.traces, tally.events);
-    let differs = |t: &Trace| {
-        let left = second.original(t);
-        !left.contains("oracle-unsupported") && left != second.lines(t)
-    };
-    let short =
-        if left.contains("oracle-unsupported") { trace.clone() } else { shrink::shrink(trace.clone(), &differs) };
+    let differs = |t: &Trace| gen::is_followed(t) && second.original(t) != second.lines(t);
+    let short = shrink::shrink(trace.clone(), &differs);
     println!("settings {:?}, first own id {:?}", short.settings.numbers(), short.next_id);
     for (time, event) in &short.events {
         println!("  {time} {event:?}");

@@ -49,6 +49,19 @@ impl Trace {
     }
 }
 
+/// Whether the original can follow, as far as the model knows.
+pub fn is_followed(trace: &Trace) -> bool {
+    let mut c = Connection::new(trace.settings, trace.next_id);
+    trace.events.iter().all(|(time, event)| {
+        let ticked = matches!(event, Event::Tick) || !c.ping_is_due(*time);
+        ticked && !is_left_out(c.step(*time, event).reply)
+    })
+}
+
+fn is_left_out(reply: u8) -> bool {
+    matches!(reply, 7..=10 | 13 | 14)
+}
+
 /// What a trace is mostly about.
 #[derive(Clone, Copy, PartialEq)]
 enum Theme {
@@ -148,7 +161,7 @@ impl Gen {
             self.events.push((self.now, Event::Tick));
         }
         let answer = self.c.step(self.now, &event);
-        if matches!(answer.reply, 7..=10 | 13 | 14) {
+        if is_left_out(answer.reply) {
             return None;
         }
         if let (Some(id), Event::Frame(..) | Event::Open) = (answer.value, &event) {
@@ -372,7 +385,12 @@ impl Gen {
                 break;
             }
         }
-        let (id, flags) = (self.frame_id(), self.flags() | ACK);
+        let Some(slot) = self.held() else { return };
+        if self.rng.chance(50) {
+            self.push(Event::Read(slot as u64, 9));
+        }
+        let id = if self.rng.chance(50) { self.stream(slot).id } else { self.frame_id() };
+        let flags = self.flags() | ACK;
         let kind = self.rng.below(2) as u8;
         self.push(Event::Frame(header(kind, flags, id, 0), Vec::new()));
     }
