@@ -108,11 +108,9 @@ pub fn check(trace: &Trace, second: &Second, tally: &mut Tally) {
     let differs = |t: &Trace| gen::is_followed(t) && second.original(t) != second.lines(t);
     let short = shrink::shrink(trace.clone(), &differs);
     println!("settings {:?}, first own id {:?}", short.settings.numbers(), short.next_id);
-    for (time, event) in &short.events {
-        println!("  {time} {event:?}");
-    }
-    println!("trace {}", model::trace::hex(&short.bytes()));
-    println!("-- the original\n{}-- the second\n{}", second.original(&short), second.lines(&short));
+    print!("{}", list::short_trace(&short));
+    println!("-- the original\n{}", list::short_lines(&second.original(&short)));
+    println!("-- the second\n{}", list::short_lines(&second.lines(&short)));
     std::process::exit(1)
 }
 

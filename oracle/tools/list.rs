@@ -118,11 +118,18 @@ fn reaches(trace: &Trace) -> Option<(String, BTreeSet<String>)> {
     Some((lines, set))
 }
 
-fn entry(trace: &Trace, lines: &str) -> String {
-    let mut out = format!("> {}\n", short(&hex(&trace.bytes())));
+/// A trace as the file has it: `> ` and its bytes in hex.
+pub fn short_trace(trace: &Trace) -> String {
+    format!("> {}\n", short(&hex(&trace.bytes())))
+}
+
+/// Lines with runs of a byte shortened.
+pub fn short_lines(lines: &str) -> String {
+    let mut out = String::new();
     for line in lines.lines() {
         let (head, bytes) = line.rsplit_once(' ').unwrap_or((line, ""));
-        let plain = bytes == "-" || line.starts_with("end");
+        let has_bytes = line.starts_with("body") || line.starts_with(|c: char| c.is_ascii_digit());
+        let plain = bytes == "-" || !has_bytes;
         out += &if plain { format!("{line}\n") } else { format!("{head} {}\n", short(bytes)) };
     }
     out
@@ -159,7 +166,7 @@ pub fn print(n: usize, seed: u64) {
         let still = |t: &Trace| gen::is_followed(t) && reaches(t).is_some_and(|r| fresh.is_subset(&r.1));
         let trace = shrink(trace, &still);
         let Some((lines, set)) = reaches(&trace) else { continue };
-        let text = entry(&trace, &lines);
+        let text = short_trace(&trace) + &short_lines(&lines);
         if text.len() <= ROOM {
             seen.extend(set);
             print!("{text}");
