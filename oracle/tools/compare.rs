@@ -3,6 +3,7 @@
 //!     compare N SEED                    N traces of the seed
 //!     compare --wide N SEED             the same under the library's bounds, first own ids near the top (model only)
 //!     compare --exhaustive DEPTH NAME   every sequence of DEPTH events over an alphabet: small, remote, own, both
+//!     compare --loose N SEED            traces the original cannot follow: the model and the second program alone
 //!     compare --list N SEED             N traces with the original's answers, chosen for what they reach
 //!     compare --hex SEED INDEX          one trace
 //!
@@ -14,6 +15,7 @@ mod model;
 mod exhaustive;
 mod gen;
 mod list;
+mod loose;
 mod shrink;
 
 use gen::Trace;
@@ -30,14 +32,16 @@ pub enum Second {
 
 impl Second {
     fn lines(&self, trace: &Trace) -> String {
-        let bytes = trace.bytes();
-        let program = match self {
+        match self {
             Second::Model => {
                 let bounds = if trace.wide { model::WIDE } else { model::REPLAY };
-                return model::trace::run(&bytes, bounds, trace.next_id, true);
+                model::trace::run(&trace.bytes(), bounds, trace.next_id, true)
             }
-            Second::Program(p) => p,
-        };
+            Second::Program(program) => Self::of_program(program, &trace.bytes()),
+        }
+    }
+
+    fn of_program(program: &str, bytes: &[u8]) -> String {
         let path = std::env::temp_dir().join(format!("oracle-trace-{}", std::process::id()));
         std::fs::write(&path, bytes).expect("trace file");
         let input = File::open(&path).expect("trace file");
@@ -98,6 +102,25 @@ impl Tally {
     }
 }
 
+/// The model and the second program on a trace that the original cannot follow.
+fn check_loose(bytes: &[u8], program: &str, tally: &mut Tally) {
+    let left = model::trace::run(bytes, model::REPLAY, None, false);
+    let right = Second::of_program(program, bytes);
+    tally.traces += 1;
+    tally.events += left.lines().count() as u64 - 1;
+    for line in left.lines() {
+        let word = line.split(' ').nth(usize::from(line.as_bytes()[0].is_ascii_digit())).unwrap_or("");
+        *tally.replies.entry(('*', word.into())).or_default() += 1;
+    }
+    if left == right {
+        return;
+    }
+    println!("difference at trace {}: {}", tally.traces, model::trace::hex(bytes));
+    let lines = left.lines().zip(right.lines()).find(|(l, r)| l != r);
+    println!("-- the model, the second\n{lines:?}");
+    std::process::exit(1)
+}
+
 /// The two sets of lines, or the report of a difference.
 pub fn check(trace: &Trace, second: &Second, tally: &mut Tally) {
     let (left, right) = (second.original(trace), second.lines(trace));
@@ -147,13 +170,19 @@ fn main() {
                 check(&gen::trace(number(seed), index, true), &second, &mut tally);
             }
         }
+        ["--loose", n, seed] => {
+            let Second::Program(program) = &second else { panic!("--loose needs --command PROGRAM") };
+            for index in 0..number(n) {
+                check_loose(&loose::bytes(number(seed), index), program, &mut tally);
+            }
+        }
         [n, seed] => {
             for index in 0..number(n) {
                 check(&gen::trace(number(seed), index, false), &second, &mut tally);
             }
         }
         _ => panic!(
-            "compare [--command CMD] [--wide] N SEED | --exhaustive DEPTH NAME | --list N SEED | --hex SEED INDEX"
+            "compare [--command CMD] [--wide] N SEED | --exhaustive DEPTH NAME | --loose N SEED | --list N SEED | --hex SEED INDEX"
         ),
     }
     tally.print();
