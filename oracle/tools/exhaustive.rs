@@ -69,7 +69,7 @@ pub fn run(depth: usize, name: &str, second: &Second, tally: &mut Tally) {
     }
 }
 
-/// Returns whether the sequence so far was run, alone or as the beginning of another.
+/// Runs each sequence that goes on from this one; this one alone where none does.
 fn walk(depth: usize, letters: &[Letter], c: &Connection, trace: &mut Trace, second: &Second, tally: &mut Tally) {
     if depth == 0 {
         return check(trace, second, tally);
