@@ -5,6 +5,7 @@
 //!     compare --exhaustive DEPTH NAME   every sequence of DEPTH events over an alphabet: small, remote, own, both
 //!     compare --loose N SEED            traces the original cannot follow: the model and the second program alone
 //!     compare --list N SEED             N traces with the original's answers, chosen for what they reach
+//!     compare --answer < TRACES         the original's answers to the traces of such a list
 //!     compare --hex SEED INDEX          one trace
 //!
 //! `--command CMD` is the second program, a path; `model` (the rules in this process, bodies compared too) by default.
@@ -164,6 +165,7 @@ fn main() {
             return;
         }
         ["--list", n, seed] => return list::print(number(n) as usize, number(seed)),
+        ["--answer"] => return list::answer(),
         ["--exhaustive", depth, name] => exhaustive::run(number(depth) as usize, name, &second, &mut tally),
         ["--wide", n, seed] if matches!(second, Second::Model) => {
             for index in 0..number(n) {
@@ -182,7 +184,7 @@ fn main() {
             }
         }
         _ => panic!(
-            "compare [--command CMD] [--wide] N SEED | --exhaustive DEPTH NAME | --loose N SEED | --list N SEED | --hex SEED INDEX"
+            "compare [--command CMD] [--wide] N SEED | --exhaustive DEPTH NAME | --loose N SEED | --list N SEED | --answer | --hex SEED INDEX"
         ),
     }
     tally.print();

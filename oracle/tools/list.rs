@@ -118,6 +118,36 @@ fn reaches(trace: &Trace) -> Option<(String, BTreeSet<String>)> {
     Some((lines, set))
 }
 
+/// The bytes of hex with runs.
+fn spelt(short: &str) -> Vec<u8> {
+    let digit = |c: char| c.to_digit(16).unwrap_or_else(|| panic!("{c}: not hex")) as u8;
+    let mut out = Vec::new();
+    let mut rest = short.chars();
+    while let Some(c) = rest.next() {
+        if c == '{' {
+            let n: String = rest.by_ref().take_while(|c| *c != '}').collect();
+            let last = *out.last().expect("a byte before its count");
+            out.extend(vec![last; n.parse::<usize>().expect("a count") - 1]);
+        } else {
+            out.push(16 * digit(c) + digit(rest.next().expect("two digits")));
+        }
+    }
+    out
+}
+
+/// Traces as the file has them, from standard input, with the original's answers put after each; comments are kept.
+pub fn answer() {
+    for line in std::io::stdin().lines() {
+        let line = line.expect("standard input");
+        if line.starts_with('#') {
+            println!("{line}");
+        } else if let Some(trace) = line.strip_prefix("> ") {
+            let lines = oracle_run(&spelt(trace), &OracleOptions::default());
+            print!("{line}\n{}", short_lines(&lines));
+        }
+    }
+}
+
 /// A trace as the file has it: `> ` and its bytes in hex.
 pub fn short_trace(trace: &Trace) -> String {
     format!("> {}\n", short(&hex(&trace.bytes())))
