@@ -1,0 +1,3 @@
+
+// ---- appended by oracle/build ----
+pub(crate) mod harness;
