@@ -1,0 +1,23 @@
+-- `connection::end` meets its contract: each return is what the definition gives by the tests that led there. Assumes nothing.
+use borrow.Author.Needs.{needs}
+use Rattle.connection.proofs.Ending.{end-follows}
+use Rattle.connection.proofs.end.Statement.{statement}
+use Rattle.connection.proofs.end.Tie as tie
+
+end-all-requires : tie.Need-end-all-requires
+end-all-requires c κs = search needs
+
+bare-requires : tie.Need-bare-requires
+bare-requires c κs = search needs
+
+same-length : tie.Need-same-length
+same-length c = search needs
+
+returns : tie.Need-returns
+returns c l p v =
+    let a = c .before .before .before .before .before .before .before .before .args in
+    let e = c .before .before .before .end-all in
+    rw (c .bare .ensures) (end-follows (a .c) (a .table .now) l p v (e .result) (e .last .1 .0) (e .ensures l p (v .memory)) (a .reply))
+
+pub end-spec : {M : Type 1} → statement M
+end-spec = tie.close (tie.spec end-all-requires bare-requires same-length returns)

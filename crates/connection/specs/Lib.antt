@@ -1,0 +1,3 @@
+-- What each call of the connection promises.
+pub mod Abstract
+pub mod Promises

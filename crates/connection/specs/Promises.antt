@@ -1,0 +1,95 @@
+-- What a call promises, on every input and from a valid state.
+use mathlib.Core.Path.{_≡_}
+use mathlib.Core.Bool.{Bool, true, false, cond}
+use mathlib.Core.List.{List, _++_}
+use Prim.Native.Nat.{ℕ}
+use lib.ListN.{length, drop}
+use lib.Dec.{ltb}
+use Rattle.frame.specs.Wire.{written}
+use Rattle.stream.specs.declared.Sent.{Sent}
+use Rattle.stream.specs.declared.Sent.the-variants.{Frame, Nothing}
+use Rattle.rules.specs.declared.Reply.{Reply}
+use Rattle.rules.specs.declared.Reply.the-variants as reply
+use Rattle.rules.specs.declared.Which.the-variants as which
+use Rattle.rules.specs.declared.Value.the-variants as value
+use Rattle.rules.specs.Settings.{lastTime}
+use Rattle.rules.specs.Replies.{Outcome}
+use Rattle.rules.specs.Ending.{Result, end}
+use Rattle.rules.specs.Step.{Call, step}
+use Rattle.handlers.specs.declared.Answer.{Answer}
+use Rattle.connection.specs.Abstract.{absOf, Valid}
+use Rattle.connection.specs.declared.Connection.{Connection}
+use Rattle.connection.specs.declared.Done.{Done}
+use Rattle.connection.specs.declared.Gate.{Gate}
+use Rattle.connection.specs.declared.Gate.the-variants as gate
+
+-- document 01's refusals that change nothing: 6 to 10, 13 and 14
+abbrev pub isRefusal : Reply → Bool
+isRefusal reply.Done = false
+isRefusal reply.Wait = false
+isRefusal reply.GoAway = false
+isRefusal reply.TooManyStreams = false
+isRefusal reply.NoMoreStreamIds = false
+isRefusal reply.Closed = false
+isRefusal reply.WriteClosed = true
+isRefusal reply.NoSlot = true
+isRefusal reply.NoRoom = true
+isRefusal reply.NotHeld = true
+isRefusal reply.Time = true
+isRefusal reply.Version = false
+isRefusal reply.Type = false
+isRefusal reply.Body = true
+isRefusal reply.Size = true
+
+-- the twelve lent bytes: a header that is given, else as they were
+abbrev pub sentAfter : Sent → List ℕ → List ℕ
+sentAfter (Frame h) s = written h s
+sentAfter Nothing s = s
+
+-- an answer of the reply alone; `all` where the connection ended by it
+abbrev pub bareAnswer : Reply → Bool → Answer
+bareAnswer r all = record {
+  reply = r;
+  slot = which.None;
+  value = value.None;
+  sent = Nothing;
+  wakes = record { reader = false; writer = false; opener = false; all = all };
+}
+
+-- "nothing changed"
+abbrev pub refused : Connection → Reply → Done
+refused c r = record { connection = c; answer = bareAnswer r false; read = 0 }
+
+-- "10, 5 (ended)": a time above 2^62-1, and next a connection that has ended
+abbrev pub gateOf : Bool → ℕ → Gate
+gateOf ended now = cond (ltb lastTime now) (gate.Shut reply.Time) (cond ended (gate.Shut reply.Closed) gate.Open)
+
+-- "Lent output changes only in the bytes read": those, and the rest as it was
+abbrev pub outAfter : List ℕ → List ℕ → List ℕ
+outAfter bytes out = bytes ++ drop (length bytes) out
+
+-- the answer is the outcome's, but for bytes
+pub record Says (a : Answer) (o : Outcome) : Type 0 where
+  pub reply : a .reply ≡ o .reply
+  pub slot : a .slot ≡ o .slot
+  pub value : a .value ≡ o .value
+  pub sent : a .sent ≡ o .header
+  pub wakes : a .wakes ≡ o .wakes
+
+-- valid again, the state the rule's, and the answer the rule's
+pub record Follows (c : Connection) (t l p : List ℕ) (rule : Result) (d : Done) (t′ l′ p′ : List ℕ) : Type 0 where
+  pub valid : Valid (d .connection) t′ l′ p′
+  pub after : absOf (d .connection) t′ l′ p′ ≡ rule .after
+  pub says : Says (d .answer) (rule .outcome)
+  pub read : d .read ≡ length (rule .outcome .bytes)
+
+-- "connection ended": what the rules' `end` says, from a valid state
+abbrev pub Ends : Connection → List ℕ → Reply → Done → List ℕ → Type 0
+Ends c t r d t′ = (l p : List ℕ) → Valid c t l p → Follows c t l p (end (absOf c t l p) r) d t′ l p
+
+-- What every call promises, `sized` saying whether all that is lent has its size: from a valid state it is the rules' step;
+-- a wrong size is 14, before all else; and a refusal leaves connection, table, links and pool as they were.
+pub record Promised (sized : Bool) (c : Connection) (t l p : List ℕ) (call : Call) (d : Done) (t′ l′ p′ : List ℕ) : Type 0 where
+  pub steps : sized ≡ true → Valid c t l p → Follows c t l p (step (absOf c t l p) call) d t′ l′ p′
+  pub wrong : sized ≡ false → d ≡ refused c reply.Size
+  pub refuses : isRefusal (d .answer .reply) ≡ true → (d .connection ≡ c) × (t′ ≡ t) × (l′ ≡ l) × (p′ ≡ p)

@@ -1,0 +1,116 @@
+// The connection: what it holds, and what its calls share. The calls themselves stand in the crates above.
+ghost use mathlib.Core.Path.{_≡_};
+ghost use Rattle.connection.specs.Promises.{bareAnswer, refused, gateOf, sentAfter, Ends};
+use frame::header;
+use handlers::Answer;
+use memory::Memory;
+use rtt::Rtt;
+use rules::Config;
+use rules::Reply;
+use rules::Value;
+use rules::Which;
+use rules::Woke;
+use stream::Sent;
+
+pub struct Connection {
+    pub config: Config,
+    pub rtt: Rtt,
+    pub ended: bool,
+    pub next_id: u32,
+    pub open_wait: bool,
+    pub growth: u64,
+    pub memory: Memory,
+}
+
+// The connection after a call, what the call answers, and how many bytes it put into the lent output.
+pub struct Done {
+    pub connection: Connection,
+    pub answer: Answer,
+    pub read: u32,
+}
+
+// Whether a call goes on: its time is in range, and the connection has not ended.
+pub enum Gate {
+    Open,
+    Shut(Reply),
+}
+
+const LAST_TIME: u64 = 4611686018427387903;
+
+// An answer of the reply alone; `all` says that the connection ended by it.
+pub fn bare(reply: Reply, all: bool) -> Answer
+    ensures { λ r. ⌜ r ≡ bareAnswer reply all ⌝ }
+{
+    Answer {
+        reply,
+        slot: Which::None,
+        value: Value::None,
+        sent: Sent::Nothing,
+        wakes: Woke {
+            reader: false,
+            writer: false,
+            opener: false,
+            all,
+        },
+    }
+}
+
+// The connection as it was, and the reply that says why.
+pub fn refuse(c: Connection, reply: Reply) -> Done
+    ensures { λ r. ⌜ r ≡ refused c reply ⌝ }
+{
+    let answer = bare(reply, false);
+    Done {
+        connection: c,
+        answer,
+        read: 0,
+    }
+}
+
+// Refuses a time above 2^62-1 and, next, an ended connection.
+pub fn judge(ended: bool, now: u64) -> Gate
+    ensures { λ r. ⌜ r ≡ gateOf ended now ⌝ }
+{
+    if LAST_TIME < now {
+        return Gate::Shut(Reply::Time);
+    }
+    if ended {
+        return Gate::Shut(Reply::Closed);
+    }
+    Gate::Open
+}
+
+// Writes the header that an answer gives into the twelve lent bytes, and leaves them as they were where it gives none.
+pub fn put(sent: &mut [u8], frame: Sent)
+    ensures { λ _. ⌜ now (sent .exit) ≡ sentAfter frame (now (sent .entry)) ⌝ }
+{
+    match frame {
+        Sent::Frame(h) => {
+            header::encode(h, sent);
+        }
+        Sent::Nothing => {}
+    }
+}
+
+// Ends the connection: every stream in the table is Closed and leaves it, and nobody waits any more.
+pub fn end(c: Connection, table: &mut [u64], reply: Reply) -> Done
+    ensures { λ r. ⌜ Ends c (now (table .entry)) reply r (now (table .exit)) ⌝ }
+{
+    let config = c.config;
+    let rtt = c.rtt;
+    let memory = c.memory.end_all(table);
+    let answer = bare(reply, true);
+    Done {
+        connection: Connection {
+            config,
+            rtt,
+            ended: true,
+            next_id: c.next_id,
+            open_wait: false,
+            growth: c.growth,
+            memory,
+        },
+        answer,
+        read: 0,
+    }
+}

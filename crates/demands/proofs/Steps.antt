@@ -1,0 +1,163 @@
+-- Every call keeps the invariant, and a new connection has it. Assumes nothing.
+use mathlib.Core.Path.{_≡_, refl, sym, ap, subst}
+use mathlib.Core.Bool.{Bool, true, false}
+use mathlib.Core.List.{List, [], _∷_}
+use Prim.Native.Nat.{ℕ, _*_, _≤_}
+use native.Mathlib.Omega.{arith}
+use lib.ListN.{length, replicate, length-replicate}
+use lib.Dec.{ltb, leb}
+use borrow.Author.Tests.{leb-true}
+use Rattle.frame.specs.Header.{initialWindow}
+use Rattle.frame.specs.Wire.{decoded}
+use Rattle.frame.specs.declared.header.Decoded.{Decoded}
+use Rattle.frame.specs.declared.header.Decoded.the-variants as found
+use Rattle.rules.specs.declared.Settings.{Settings}
+use Rattle.rules.specs.declared.Config.{Config}
+use Rattle.rules.specs.declared.Mode.{Mode}
+use Rattle.rules.specs.declared.Mode.the-variants.{Client, Server}
+use Rattle.rules.specs.declared.Setting.{Setting}
+use Rattle.rules.specs.declared.Setting.the-variants as setting
+use Rattle.rules.specs.declared.Checked.{Checked}
+use Rattle.rules.specs.declared.Checked.the-variants.{Fine}
+use Rattle.rules.specs.declared.Reply.the-variants as reply
+use Rattle.rules.specs.Settings.{checked, configOf, require, within, lastTime}
+use Rattle.rules.specs.State.{Entry, Conn, vacant, entry, one, initial, firstOwn}
+use Rattle.rules.specs.Ending.{Result, refuse}
+use Rattle.rules.specs.Calls.{growthOf}
+use Rattle.rules.specs.Step.{onDecoded, step}
+use Rattle.rules.specs.Step as rules
+use Rattle.demands.specs.Demands.{Reach, new, then, wouldOpen, opensDecoded}
+use Rattle.demands.specs.Handles.{about, aboutDecoded}
+use Rattle.demands.specs.History.{Event, nothing, gaveOut, event, byFrame}
+use Rattle.demands.proofs.Lists.{split, both, true-not-false, getD-same, sum-none}
+use Rattle.demands.proofs.Invariant.{Allowed, Inv, vacant-good}
+use Rattle.demands.proofs.Sound.{Sound, left, same-put, bytesOf, refused-plain, ends}
+use Rattle.demands.proofs.Frames.{headers}
+use Rattle.demands.proofs.Calls.{reads, writes, closes}
+use Rattle.demands.proofs.Handles.{opens-stream, drops, ticks}
+
+-- ---- a call
+
+-- whether a call would make a stream of a body
+abbrev pub callOpens : Conn → rules.Call → Bool
+callOpens c (rules.tick now) = false
+callOpens c (rules.frame now head body) = wouldOpen c head body
+callOpens c (rules.open-stream now) = false
+callOpens c (rules.read now i asked) = false
+callOpens c (rules.write now i given) = false
+callOpens c (rules.close now i) = false
+callOpens c (rules.drop now i) = false
+callOpens c (rules.gone now) = false
+
+module _ (c : Conn) (v : Inv c) where
+  -- an event that leaves all bytes
+  abbrev Still : Event → Type 0
+  Still e = (j : ℕ) → bytesOf (c .slots) j ≡ left e (bytesOf (c .slots)) j
+
+  -- a time, an ended connection and a handle that is not held are refused; else the rules decide
+  timed-ok : (here : ℕ → Type 0) (opening : Bool) (e : Result → Event) (now : ℕ) (next : Result) → Still (e (refuse c reply.Time)) → Sound c here opening (e next) next → Sound c here opening (e (rules.timed c now next)) (rules.timed c now next)
+  timed-ok here opening e now next n s = split (λ r. Sound c here opening (e r) r) (ltb lastTime now) (λ t. refused-plain c here opening _ v reply.Time refl n) (λ t. s)
+
+  live-ok : (here : ℕ → Type 0) (opening : Bool) (e : Result → Event) (next : Result) → Still (e (refuse c reply.Closed)) → (c .ended ≡ false → Sound c here opening (e next) next) → Sound c here opening (e (rules.live c next)) (rules.live c next)
+  live-ok here opening e next n s = split (λ r. Sound c here opening (e r) r) (c .ended) (λ t. refused-plain c here opening _ v reply.Closed refl n) s
+
+  holding-ok : (here : ℕ → Type 0) (e : Result → Event) (i : ℕ) (next : Result) → Still (e (refuse c reply.NotHeld)) → (entry (c .slots) i .held ≡ true → Sound c here false (e next) next) →
+      Sound c here false (e (rules.holding c i next)) (rules.holding c i next)
+  holding-ok here e i next n s = split (λ r. Sound c here false (e r) r) (entry (c .slots) i .held) s (λ h. refused-plain c here false _ v reply.NotHeld refl n)
+
+  decodes : (d : Decoded) (body : List ℕ) (now : ℕ) → Sound c (aboutDecoded d c) (opensDecoded d c body) (byFrame d c body (onDecoded d c body now .outcome)) (onDecoded d c body now)
+  unfolding onDecoded
+  decodes found.Size body now = refused-plain c _ false _ v reply.Size refl (λ j. refl)
+  decodes (found.Version n) body now =
+      timed-ok _ false (λ r. nothing) now _ (λ j. refl) (live-ok _ false (λ r. nothing) _ (λ j. refl) (λ l. ends c v l _ false _ reply.Version refl refl refl))
+  decodes (found.Type n) body now =
+      timed-ok _ false (λ r. nothing) now _ (λ j. refl) (live-ok _ false (λ r. nothing) _ (λ j. refl) (λ l. ends c v l _ false _ reply.Type refl refl refl))
+  decodes (found.Header h) body now =
+      let e : Result → Event = λ r. byFrame (found.Header h) c body (r .outcome) in
+      timed-ok _ _ e now _ (λ j. refl) (live-ok _ _ e _ (λ j. refl) (λ l. headers c v l h body now))
+
+  pub sound : (k : rules.Call) → Sound c (about c k) (callOpens c k) (event c k (step c k .outcome)) (step c k)
+  unfolding step
+  sound (rules.tick now) = timed-ok _ false (λ r. nothing) now _ (λ j. refl) (live-ok _ false (λ r. nothing) _ (λ j. refl) (λ l. ticks c v now))
+  sound (rules.frame now head body) = decodes (decoded head) body now
+  sound (rules.open-stream now) =
+      let e : Result → Event = λ r. event c (rules.open-stream now) (r .outcome) in
+      timed-ok _ false e now _ (λ j. refl) (live-ok _ false e _ (λ j. refl) (λ l. opens-stream c v l now))
+  sound (rules.read now i asked) =
+      let e : Result → Event = λ r. event c (rules.read now i asked) (r .outcome) in
+      let s : Still (gaveOut i []) = λ j. sym (same-put (bytesOf (c .slots)) i j) in
+      timed-ok _ false e now _ s (holding-ok _ e i _ s (λ h. reads c v i h asked now))
+  sound (rules.write now i given) = timed-ok _ false (λ r. nothing) now _ (λ j. refl) (holding-ok _ (λ r. nothing) i _ (λ j. refl) (λ h. writes c v i h given))
+  sound (rules.close now i) = timed-ok _ false (λ r. nothing) now _ (λ j. refl) (holding-ok _ (λ r. nothing) i _ (λ j. refl) (λ h. closes c v i h))
+  sound (rules.drop now i) =
+      let e : Result → Event = λ r. event c (rules.drop now i) (r .outcome) in
+      timed-ok _ false e now _ (λ j. refl) (holding-ok _ e i _ (λ j. refl) (λ h. drops c v i h))
+  sound (rules.gone now) = timed-ok _ false (λ r. nothing) now _ (λ j. refl) (live-ok _ false (λ r. nothing) _ (λ j. refl) (λ l. ends c v l _ false _ reply.Closed refl refl refl))
+
+-- ---- a new connection
+
+fine : (b : Bool) (s : Setting) (next : Checked) (c : Config) → require b s next ≡ Fine c → (b ≡ true) × (next ≡ Fine c)
+fine true s next c e = (refl, e)
+fine false s next c e = let z : true ≡ false = cc in true-not-false refl z
+
+fine-is : (c d : Config) → Fine c ≡ Fine d → c ≡ d
+fine-is c d e = cc
+
+-- settings that are accepted are allowed, and the connection has them as they are
+accepted-settings : (s : Settings) (c : Config) → checked s ≡ Fine c → Allowed c
+accepted-settings s c e =
+    let a = fine (leb (s .mode) 1) setting.Mode _ c e in
+    let m = fine (leb (s .«max_num_streams») 512) setting.Streams _ c (a .1) in
+    let l = fine (leb (s .«max_num_streams» * initialWindow) (s .limit)) setting.Limit _ c (m .1) in
+    let r = fine (leb (s .«read_after_close») 1) setting.ReadAfterClose _ c (l .1) in
+    let p = fine (within 1 4294967295 (s .split)) setting.Split _ c (r .1) in
+    let t = fine (within 1 lastTime (s .interval)) setting.Interval _ c (p .1) in
+    let first = fine (leb (s .«first_time») lastTime) setting.FirstTime _ c (t .1) in
+    let id = fine (leb (s .«first_id») 4294967295) setting.FirstId _ c (first .1) in
+    let k = fine (within 1 1024 (s .slots)) setting.Slots _ c (id .1) in
+    let n = fine (leb (s .«max_num_streams») (s .slots)) setting.Slots _ c (k .1) in
+    let q = fine (leb (s .pool) 4294967295) setting.Pool _ c (n .1) in
+    let w = both (leb 1 (s .slots)) (leb (s .slots) 1024) (k .0) in
+    subst Allowed (fine-is (configOf s) c (q .1)) (record {
+      streams = leb-true _ _ (m .0);
+      least = leb-true _ _ (l .0);
+      some = leb-true _ _ (w .0);
+      many = leb-true _ _ (w .1);
+      enough = leb-true _ _ (n .0);
+      pool = leb-true _ _ (q .0);
+    })
+
+first-low : (m : Mode) → firstOwn m ≤ 4294967295
+first-low Client = omega arith
+first-low Server = omega arith
+
+starts : (c : Config) → Allowed c → Inv (initial c)
+starts c a =
+    let es = replicate (c .slots) vacant in
+    let all : (i : ℕ) → entry es i ≡ vacant = λ i. getD-same (c .slots) i vacant in
+    let none : (i : ℕ) → entry es i .listed ≡ false = λ i. rw (all i) in
+    record {
+      allowed = a;
+      size = length-replicate (c .slots) vacant;
+      good = λ i. rw (all i) vacant-good;
+      unique = λ i j l m e. true-not-false l (none i);
+      count = omega (arith, sum-none (λ (e : Entry). one (e .listed)) (c .slots) vacant refl);
+      figure = sym (sum-none growthOf (c .slots) vacant refl);
+      bounded = omega (arith, a .least);
+      room = omega (arith, sum-none (λ (e : Entry). length (e .bytes)) (c .slots) vacant refl);
+      last = first-low (c .mode);
+      parity = refl;
+      below = λ i h o. true-not-false h (ap (λ (e : Entry). e .held) (all i));
+      quiet = λ t. none;
+    }
+
+pub started : (s : Settings) (c : Config) → checked s ≡ Fine c → Inv (initial c)
+started s c e = starts c (accepted-settings s c e)
+
+pub reached : {c : Conn} → Reach c → Inv c
+reached (new {c = c} s e) = started s c e
+reached (then {c = c} r k) = sound c (reached r) k .inv
+
+pub run-reaches : {c : Conn} → Reach c → (ks : List rules.Call) → Reach (rules.run c ks .after)
+run-reaches r [] = r
+run-reaches r (k ∷ ks) = run-reaches (then r k) ks

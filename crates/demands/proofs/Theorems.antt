@@ -1,0 +1,167 @@
+-- The demands, proved. The statements are those of `specs/Theorems.antt`. Assumes nothing.
+use mathlib.Core.Path.{_≡_, refl, ap, _∙_}
+use mathlib.Core.Logic.{_⊎_, inl, inr}
+use mathlib.Core.Bool.{Bool, true, false, cond}
+use mathlib.Core.List.{List}
+use Prim.Native.Nat.{ℕ, _+_, _-_, _*_, _%_, _≤_, _<_, min}
+use native.Mathlib.Omega.{arith}
+use lib.ListN.{length, take}
+use lib.Dec.{eqb}
+use borrow.Author.Tests.{eqb-true}
+use Rattle.frame.specs.Header.{initialWindow}
+use Rattle.stream.specs.States.{canRead}
+use Rattle.rules.specs.State.{Entry, Conn, vacant, entry, one, firstOwn}
+use Rattle.rules.specs.Ending.{Result}
+use Rattle.rules.specs.Calls.{growthOf, readRules, readWith, windowStep}
+use Rattle.rules.specs.Step.{step, run}
+use Rattle.rules.specs.Step as rules
+use Rattle.demands.specs.Demands.{heldCount, wouldOpen}
+use Rattle.demands.specs.History.{event}
+use Rattle.demands.specs.Theorems.{GrowthIsASum, GrowthIsWithin, GrowthIsReturned, GrowthStays, WindowsAreWithin, BytesAreKept, UnreadIsTheRest, ReadsGiveTheNext, ReadsGiveAll, UnreadIsWithin, RoomForHandles, RoomForM, RoomForK, IdsAreOurs, IdsRise, ListedAreDistinct, ListedAreHeld, UnlistedAreClosed, FreeAreVacant, TableIsWithin, RefusalsChangeNothing, OnlyDoneGives, SettingsAreAllowed, SettingsStay}
+use Rattle.demands.proofs.Lists.{split, true-not-false, sum-eq, sum-count}
+use Rattle.demands.proofs.Invariant.{Good, Inv}
+use Rattle.demands.proofs.Sound.{Crowded, moves}
+use Rattle.demands.proofs.Steps.{callOpens, sound, reached}
+use Rattle.demands.proofs.Handles.{growth-part}
+use Rattle.demands.proofs.Answers.{opens, last-own, run-rises, front, gives-all, timely, holds, drop-returns}
+use Rattle.demands.proofs.Bytes.{event-still, whole, rest}
+
+-- ---- growth
+
+-- a free slot has grown nothing
+held-part : (e : Entry) → Good e → growthOf e ≡ cond (e .held) (growthOf e) 0
+held-part e g = go (e .held) refl
+  where
+    go : (b : Bool) → e .held ≡ b → growthOf e ≡ cond b (growthOf e) 0
+    go true h = refl
+    go false h = ap growthOf (g .free h)
+
+pub growth-is-a-sum : GrowthIsASum
+growth-is-a-sum c r =
+    let v = reached r in
+    v .figure ∙ sum-eq growthOf (λ e. cond (e .held) (growthOf e) 0) (c .slots) vacant (λ j. held-part (entry (c .slots) j) (v .good j))
+
+pub growth-is-within : GrowthIsWithin
+growth-is-within c r = let v = reached r in (v .allowed .least, omega (arith, v .bounded))
+
+pub growth-is-returned : GrowthIsReturned
+growth-is-returned c r now i t h = (growth-part c (reached r) i h, drop-returns c now i t h)
+
+pub growth-stays : GrowthStays
+growth-stays c r k s = go (sound c (reached r) k .figure)
+  where
+    go : (step c k .after .growth ≡ c .growth) ⊎ (moves (event c k (step c k .outcome)) ≡ true) → step c k .after .growth ≡ c .growth
+    go (inl e) = e
+    go (inr m) = true-not-false m (event-still c k (step c k .outcome) s)
+
+-- ---- bytes
+
+pub windows-are-within : WindowsAreWithin
+windows-are-within c r i h = let f = reached r .good i .flows in (f .fits, f .low, f .high, f .sends)
+
+pub bytes-are-kept : BytesAreKept
+bytes-are-kept c h s i = whole s i
+
+pub unread-is-the-rest : UnreadIsTheRest
+unread-is-the-rest c h s i = rest s i
+
+pub reads-give-the-next : ReadsGiveTheNext
+reads-give-the-next c h s now i asked =
+    let n = length (step c (rules.read now i asked) .outcome .bytes) in
+    front c now i asked ∙ ap (λ (l : List ℕ). take n l) (rest s i)
+
+pub reads-give-all : ReadsGiveAll
+unfolding step readRules readWith
+reads-give-all c now i asked t l h =
+    let e = entry (c .slots) i in
+    let n = min asked (length (e .bytes)) in
+    let u = windowStep c e now in
+    rw (timely c now _ t, holds c i _ h)
+    (split (λ (r : Result). r .outcome .bytes ≡ take n (e .bytes)) (cond (c .ended) (cond (c .config .«read_after_close») false true) false)
+    (λ d. let no : cond (c .ended) (cond (c .config .«read_after_close») false true) false ≡ false = rw l in true-not-false d no)
+    (λ d. gives-all c i e u n (eqb n 0) (canRead (u .stream .state)) (eqb-true n 0)))
+
+pub unread-is-within : UnreadIsWithin
+unread-is-within c r = reached r .room
+
+-- ---- room
+
+one-of : (b : Bool) → b ≡ true → one b ≡ 1
+one-of b e = rw e
+
+-- with n handles at the most, the bytes are within the pool
+no-crowd : (pool limit n m held growth : ℕ) → held ≤ n → growth + m * initialWindow ≤ limit → limit + n * initialWindow ≤ pool + m * initialWindow → pool < held * initialWindow + growth → ⊥
+no-crowd pool limit n m held growth h b p q = omega arith
+
+-- a frame that finds no room needs more handles than the pool was made for
+no-room : (c : Conn) → Inv c → (n : ℕ) (opening : Bool) →
+    c .config .limit + n * initialWindow ≤ c .config .pool + c .config .«max_num_streams» * initialWindow →
+    heldCount (c .slots) ≤ n → (opening ≡ true → heldCount (c .slots) < length (c .slots) → heldCount (c .slots) + 1 ≤ n) → Crowded c opening → ⊥
+no-room c v n opening p h o (inl q) = no-crowd (c .config .pool) (c .config .limit) n (c .config .«max_num_streams») (heldCount (c .slots)) (c .growth) h (v .bounded) p q
+no-room c v n opening p h o (inr q) =
+    no-crowd (c .config .pool) (c .config .limit) n (c .config .«max_num_streams») (heldCount (c .slots) + 1) (c .growth) (o (q .0) (q .1)) (v .bounded) p (q .2)
+
+pub room-for-handles : RoomForHandles
+room-for-handles c r n now head body h p e =
+    no-room c (reached r) n (wouldOpen c head body) p (omega (arith, h)) (λ o l. omega (arith, h, one-of (wouldOpen c head body) o))
+    (sound c (reached r) (rules.frame now head body) .crowded e)
+
+pub room-for-m : RoomForM
+room-for-m c r now head body p h = room-for-handles c r (c .config .«max_num_streams») now head body h (omega (arith, p))
+
+pub room-for-k : RoomForK
+room-for-k c r k p e =
+    let v = reached r in
+    let n = sum-count (λ (x : Entry). x .held) (c .slots) in
+    no-room c v (c .config .slots) (callOpens c k) (enough (c .config .slots) (c .config .«max_num_streams») (v .allowed .enough) p) (omega (arith, n, v .size)) (λ o l. omega (arith, l, v .size)) (sound c v k .crowded e)
+  where
+    enough : (k m : ℕ) → m ≤ k → c .config .limit + (k - m) * initialWindow ≤ c .config .pool → c .config .limit + k * initialWindow ≤ c .config .pool + m * initialWindow
+    enough k m l q = omega (arith, l, q)
+
+-- ---- ids and the table
+
+pub ids-are-ours : IdsAreOurs
+ids-are-ours c r now id g =
+    let o = opens c now id g in
+    let v = reached r in
+    let p : id % 2 ≡ firstOwn (c .config .mode) % 2 = rw (o .0) (v .parity) in
+    (last-own (c .config .mode) id (omega (arith, o .0, o .2)) p, p)
+
+pub ids-rise : IdsRise
+ids-rise c r now later a b ks g h =
+    let v = sound c (reached r) (rules.open-stream now) .inv in
+    let d = step c (rules.open-stream now) .after in
+    let first = opens c now a g in
+    let second = opens (run d ks .after) later b h in
+    omega (arith, first .0, first .1, second .0, run-rises d v ks)
+
+pub listed-are-distinct : ListedAreDistinct
+listed-are-distinct c r = reached r .unique
+
+pub listed-are-held : ListedAreHeld
+listed-are-held c r i = reached r .good i .holds
+
+pub unlisted-are-closed : UnlistedAreClosed
+unlisted-are-closed c r i = reached r .good i .closes
+
+pub free-are-vacant : FreeAreVacant
+free-are-vacant c r i = reached r .good i .free
+
+pub table-is-within : TableIsWithin
+table-is-within c r =
+    let v = reached r in
+    (v .count, omega (arith, sum-count (λ (x : Entry). x .held) (c .slots), v .size), v .quiet)
+
+-- ---- answers
+
+pub refusals-change-nothing : RefusalsChangeNothing
+refusals-change-nothing c r k = sound c (reached r) k .refusal
+
+pub only-done-gives : OnlyDoneGives
+only-done-gives c r k = sound c (reached r) k .silent
+
+pub settings-are-allowed : SettingsAreAllowed
+settings-are-allowed c r = let a = reached r .allowed in (a .streams, a .some, a .many, a .enough, a .pool)
+
+pub settings-stay : SettingsStay
+settings-stay c r k = sound c (reached r) k .config

@@ -1,0 +1,195 @@
+-- The three demands, each as a statement that can be read without its proof. `proofs/Theorems.antt` proves each under the
+-- same name in lower case. `Reach c` is any state that accepted settings and any calls lead to.
+use mathlib.Core.Path.{_≡_}
+use mathlib.Core.Logic.{_≢_}
+use mathlib.Core.Bool.{Bool, true, false}
+use mathlib.Core.List.{List, [], _++_}
+use Prim.Native.Nat.{ℕ, _+_, _-_, _*_, _%_, _≤_, _<_, min}
+use lib.ListN.{length, take, drop}
+use Rattle.frame.specs.Header.{initialWindow}
+use Rattle.flow_control.specs.Windows.{top}
+use Rattle.stream.specs.declared.State.the-variants.{Closed}
+use Rattle.stream.specs.declared.Sent.the-variants.{Nothing}
+use Rattle.rules.specs.declared.Mode.{Mode}
+use Rattle.rules.specs.declared.Mode.the-variants.{Client, Server}
+use Rattle.rules.specs.declared.Reply.the-variants as reply
+use Rattle.rules.specs.declared.Value.the-variants as value
+use Rattle.rules.specs.Settings.{lastTime}
+use Rattle.rules.specs.State.{Conn, vacant, entry, one, firstOwn, listedCount, unreadTotal}
+use Rattle.rules.specs.Ending.{Result}
+use Rattle.rules.specs.Calls.{growthOf}
+use Rattle.rules.specs.Step.{step, run}
+use Rattle.rules.specs.Step as rules
+use Rattle.demands.specs.Demands.{Reach, heldCount, heldGrowth, wouldOpen, leavesAll, mayGive}
+use Rattle.demands.specs.History.{Heard, Story}
+
+-- ---- growth
+
+-- "it is a sum over held streams": the figure is the sum, over streams whose handle is held, in the table or not, of the receive
+-- maximum above 262,144.
+abbrev pub GrowthIsASum : Type 0
+GrowthIsASum = (c : Conn) → Reach c → c .growth ≡ heldGrowth (c .slots)
+
+-- The figure is at most limit - M x 262,144, and that minus hides nothing: M x 262,144 is at most the limit.
+abbrev pub GrowthIsWithin : Type 0
+GrowthIsWithin =
+    (c : Conn) → Reach c →
+    (c .config .«max_num_streams» * initialWindow ≤ c .config .limit)
+    × (c .growth ≤ c .config .limit - c .config .«max_num_streams» * initialWindow)
+
+-- "A dropped handle returns its growth once": the figure holds it until then, so that the minus at the drop hides nothing.
+abbrev pub GrowthIsReturned : Type 0
+GrowthIsReturned =
+    (c : Conn) → Reach c → (now i : ℕ) → now ≤ lastTime → entry (c .slots) i .held ≡ true →
+    (growthOf (entry (c .slots) i) ≤ c .growth) × (step c (rules.drop now i) .after .growth ≡ c .growth - growthOf (entry (c .slots) i))
+
+-- Whether a call may move the figure: only a read, which may raise it, and a drop.
+abbrev pub movesGrowth : rules.Call → Bool
+movesGrowth (rules.tick now) = false
+movesGrowth (rules.frame now head body) = false
+movesGrowth (rules.open-stream now) = false
+movesGrowth (rules.read now i asked) = true
+movesGrowth (rules.write now i given) = false
+movesGrowth (rules.close now i) = false
+movesGrowth (rules.drop now i) = true
+movesGrowth (rules.gone now) = false
+
+-- So no frame gives growth back, an RST among them, and no ending does.
+abbrev pub GrowthStays : Type 0
+GrowthStays = (c : Conn) → Reach c → (k : rules.Call) → movesGrowth k ≡ false → step c k .after .growth ≡ c .growth
+
+-- ---- bytes
+
+-- Of a held stream, unread and receive window are within the receive maximum; it is from 262,144 to 2^32-1, and the send window
+-- is at most 2^32-1.
+abbrev pub WindowsAreWithin : Type 0
+WindowsAreWithin =
+    (c : Conn) → Reach c → (i : ℕ) → entry (c .slots) i .held ≡ true →
+    let f = entry (c .slots) i .stream .flow in
+    (length (entry (c .slots) i .bytes) + f .«receive_window» ≤ f .«max_receive_window»)
+    × (initialWindow ≤ f .«max_receive_window») × (f .«max_receive_window» ≤ top) × (f .«send_window» ≤ top)
+
+-- What a handle accepted since it was made is what its reads gave and then what is unread, in order.
+abbrev pub BytesAreKept : Type 0
+BytesAreKept =
+    (c : Conn) (h : ℕ → Heard) → Story c h → (i : ℕ) → h i .taken ≡ h i .given ++ entry (c .slots) i .bytes
+
+-- So unread is accepted less the first ones, as many as were read.
+abbrev pub UnreadIsTheRest : Type 0
+UnreadIsTheRest =
+    (c : Conn) (h : ℕ → Heard) → Story c h → (i : ℕ) → entry (c .slots) i .bytes ≡ drop (length (h i .given)) (h i .taken)
+
+-- The bytes that a read gives are the next accepted ones: those after the ones that were given.
+abbrev pub ReadsGiveTheNext : Type 0
+ReadsGiveTheNext =
+    (c : Conn) (h : ℕ → Heard) → Story c h → (now i asked : ℕ) →
+    let bytes = step c (rules.read now i asked) .outcome .bytes in
+    bytes ≡ take (length bytes) (drop (length (h i .given)) (h i .taken))
+
+-- "the oldest min(asked, unread) bytes": on a connection that goes on, a read on a held handle gives so many.
+abbrev pub ReadsGiveAll : Type 0
+ReadsGiveAll =
+    (c : Conn) → (now i asked : ℕ) → now ≤ lastTime → c .ended ≡ false → entry (c .slots) i .held ≡ true →
+    step c (rules.read now i asked) .outcome .bytes ≡ take (min asked (length (entry (c .slots) i .bytes))) (entry (c .slots) i .bytes)
+
+-- All unread bytes are within the pool, so that "P less all unread bytes" hides nothing.
+abbrev pub UnreadIsWithin : Type 0
+UnreadIsWithin = (c : Conn) → Reach c → unreadTotal (c .slots) ≤ c .config .pool
+
+-- ---- room
+
+-- With handles held, counting one that the frame would open, at most n, a pool of the limit and 262,144 for each of the n beyond
+-- M refuses no frame with 8.
+abbrev pub RoomForHandles : Type 0
+RoomForHandles =
+    (c : Conn) → Reach c → (n now : ℕ) (head body : List ℕ) →
+    heldCount (c .slots) + one (wouldOpen c head body) ≤ n →
+    c .config .limit + n * initialWindow ≤ c .config .pool + c .config .«max_num_streams» * initialWindow →
+    step c (rules.frame now head body) .outcome .reply ≢ reply.NoRoom
+
+-- With P at least the limit and at most M handles held, counting one that the frame would open, no frame is refused with 8.
+abbrev pub RoomForM : Type 0
+RoomForM =
+    (c : Conn) → Reach c → (now : ℕ) (head body : List ℕ) →
+    c .config .limit ≤ c .config .pool → heldCount (c .slots) + one (wouldOpen c head body) ≤ c .config .«max_num_streams» →
+    step c (rules.frame now head body) .outcome .reply ≢ reply.NoRoom
+
+-- K alone: with P at least limit + (K - M) x 262,144 no call at all is refused with 8 (reading E7).
+abbrev pub RoomForK : Type 0
+RoomForK =
+    (c : Conn) → Reach c → (k : rules.Call) →
+    c .config .limit + (c .config .slots - c .config .«max_num_streams») * initialWindow ≤ c .config .pool →
+    step c k .outcome .reply ≢ reply.NoRoom
+
+-- ---- ids and the table
+
+-- "4294967295 and 4294967294 are never given"
+abbrev pub lastOwn : Mode → ℕ
+lastOwn Client = 4294967293
+lastOwn Server = 4294967292
+
+-- that a call gave a new id
+abbrev pub Gave : Result → ℕ → Type 0
+Gave r id = (r .outcome .reply ≡ reply.Done) × (r .outcome .value ≡ value.Of id)
+
+-- "ids start at 1 (client) or 2 (server) and go by 2": an id given has our parity and is at most the last one.
+abbrev pub IdsAreOurs : Type 0
+IdsAreOurs =
+    (c : Conn) → Reach c → (now id : ℕ) → Gave (step c (rules.open-stream now)) id →
+    (id ≤ lastOwn (c .config .mode)) × (id % 2 ≡ firstOwn (c .config .mode) % 2)
+
+-- None is given twice: whatever calls stand between, a later id is above an earlier one.
+abbrev pub IdsRise : Type 0
+IdsRise =
+    (c : Conn) → Reach c → (now later a b : ℕ) (ks : List rules.Call) →
+    Gave (step c (rules.open-stream now)) a → Gave (step (run (step c (rules.open-stream now) .after) ks .after) (rules.open-stream later)) b → a < b
+
+-- Ids of streams in the table are distinct.
+abbrev pub ListedAreDistinct : Type 0
+ListedAreDistinct =
+    (c : Conn) → Reach c → (i j : ℕ) → entry (c .slots) i .listed ≡ true → entry (c .slots) j .listed ≡ true →
+    entry (c .slots) i .stream .id .0 ≡ entry (c .slots) j .stream .id .0 → i ≡ j
+
+-- A stream in the table has its handle held.
+abbrev pub ListedAreHeld : Type 0
+ListedAreHeld = (c : Conn) → Reach c → (i : ℕ) → entry (c .slots) i .listed ≡ true → entry (c .slots) i .held ≡ true
+
+-- Held and outside the table is Closed (reading B8).
+abbrev pub UnlistedAreClosed : Type 0
+UnlistedAreClosed =
+    (c : Conn) → Reach c → (i : ℕ) → entry (c .slots) i .held ≡ true → entry (c .slots) i .listed ≡ false →
+    entry (c .slots) i .stream .state ≡ Closed
+
+-- A slot whose handle is not held is vacant: it keeps nothing of what it held.
+abbrev pub FreeAreVacant : Type 0
+FreeAreVacant = (c : Conn) → Reach c → (i : ℕ) → entry (c .slots) i .held ≡ false → entry (c .slots) i ≡ vacant
+
+-- At most M streams are in the table, at most K handles are held, and once ended the table is empty.
+abbrev pub TableIsWithin : Type 0
+TableIsWithin =
+    (c : Conn) → Reach c →
+    (listedCount (c .slots) ≤ c .config .«max_num_streams») × (heldCount (c .slots) ≤ c .config .slots)
+    × (c .ended ≡ true → (i : ℕ) → entry (c .slots) i .listed ≡ false)
+
+-- ---- answers
+
+-- "nothing changed": a call that gets 6 to 10, 13 or 14 leaves the state that it met.
+abbrev pub RefusalsChangeNothing : Type 0
+RefusalsChangeNothing = (c : Conn) → Reach c → (k : rules.Call) → leavesAll (step c k .outcome .reply) ≡ true → step c k .after ≡ c
+
+-- "replies but 0, 1 and 2 give neither"
+abbrev pub OnlyDoneGives : Type 0
+OnlyDoneGives =
+    (c : Conn) → Reach c → (k : rules.Call) → mayGive (step c k .outcome .reply) ≡ false →
+    (step c k .outcome .header ≡ Nothing) × (step c k .outcome .body ≡ []) × (step c k .outcome .bytes ≡ [])
+
+-- The settings of a connection are those of document 01's section on them.
+abbrev pub SettingsAreAllowed : Type 0
+SettingsAreAllowed =
+    (c : Conn) → Reach c →
+    (c .config .«max_num_streams» ≤ 512) × (1 ≤ c .config .slots) × (c .config .slots ≤ 1024)
+    × (c .config .«max_num_streams» ≤ c .config .slots) × (c .config .pool ≤ top)
+
+-- A connection keeps the settings that it was made with.
+abbrev pub SettingsStay : Type 0
+SettingsStay = (c : Conn) → Reach c → (k : rules.Call) → step c k .after .config ≡ c .config

@@ -1,0 +1,5 @@
+pub mod Groups
+pub mod Inside
+pub mod More
+pub mod Moved
+pub mod Settings

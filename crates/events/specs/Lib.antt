@@ -1,0 +1,4 @@
+-- What the contracts of `events` cite.
+pub mod Numbers
+pub mod Format
+pub mod Calls

@@ -1,0 +1,141 @@
+-- Performing the actions of local calls is what the rules of calls say. Assumes nothing.
+use mathlib.Core.Path.{_≡_, refl, ap, sym, _∙_}
+use mathlib.Core.Bool.{Bool, true, false, cond, not}
+use mathlib.Core.List.{List, [], append-nil}
+use Prim.Native.Nat.{ℕ, _+_, min}
+use lib.ListN.{length}
+use lib.Seq.{set-set}
+use lib.Dec.{eqb, ltb, leb}
+use borrow.Author.Tests.{eqb-true}
+use Rattle.rtt.specs.Pings.{nextPing}
+use Rattle.rtt.specs.declared.Rtt.{Rtt}
+use Rattle.rtt.specs.declared.NextPing.{NextPing}
+use Rattle.rtt.specs.declared.NextPing.the-variants as ask
+use Rattle.flow_control.specs.Windows.{top}
+use Rattle.stream.specs.States.{canRead}
+use Rattle.stream.specs.Streams as stream
+use Rattle.stream.specs.declared.Stream.{Stream}
+use Rattle.stream.specs.declared.Updated.{Updated}
+use Rattle.stream.specs.declared.Reading.{Reading}
+use Rattle.stream.specs.declared.Reading.the-variants as reading
+use Rattle.stream.specs.declared.Written.{Written}
+use Rattle.stream.specs.declared.Written.the-variants as written
+use Rattle.rules.specs.Lists.{Place, at, nowhere}
+use Rattle.rules.specs.State.{Entry, Conn, entry, vacant, find, withSlot, withPings, withGrowth, lowestFree, listedCount, unacknowledged}
+use Rattle.rules.specs.Ending.{Result, gives}
+use Rattle.rules.specs.Calls.{openAt, open-rules, readRest, readWith, windowStep, readRules, writeWith, writeRules, closeRules, dropAt, dropRules, pingOut, tickRules}
+use Rattle.rules.specs.declared.Slot.{Slot}
+use Rattle.handlers.specs.Perform.{outcomeOf, perform, vacancyOf}
+use Rattle.handlers.specs.Locals.{writeAction, onWrite, carrying, onClose, openIn, openWith, openAction, performOpen, isShut, nothingRead, readEnded, onRead, performRead, onDrop, tableAt, freed, growthReturned, pingSent, onTick}
+use Rattle.handlers.specs.declared.Answer.{Answer}
+use Rattle.handlers.specs.declared.Action.the-variants as action
+use Rattle.handlers.proofs.Rules.{ListedHeld, both, livesAt, find-lives, heardBy}
+
+-- ---- write and close
+
+module _ (c : Conn) (i : ℕ) (held : entry (c .slots) i .held ≡ true) where
+  write-with : (given : List ℕ) (w : Written) →
+      writeWith c i (entry (c .slots) i) given w ≡ carrying given (perform c c [] (writeAction (record { 0 = i }) (entry (c .slots) i .listed) w))
+  unfolding writeWith carrying perform
+  write-with given written.Closed = refl
+  write-with given (written.Wait s) = rw (held, append-nil)
+  write-with given (written.Frame s h) = rw (held, append-nil)
+
+  pub write-performs : (given : List ℕ) →
+      writeRules c i (entry (c .slots) i) given
+      ≡ carrying given (perform c c [] (onWrite (c .ended) (record { 0 = i }) (entry (c .slots) i .stream) (entry (c .slots) i .listed) (length given) (c .config .split)))
+  unfolding writeRules onWrite carrying perform
+  write-performs given =
+      both (λ x. carrying given (perform c c [] x)) (c .ended) refl
+      (write-with given (stream.write (entry (c .slots) i .stream) (length given) (c .config .split)))
+
+  pub close-performs :
+      closeRules c i (entry (c .slots) i) ≡ perform c c [] (onClose (record { 0 = i }) (entry (c .slots) i .stream) (entry (c .slots) i .listed))
+  unfolding closeRules onClose perform
+  close-performs = rw (held, append-nil)
+
+-- ---- open
+
+open-at : (c : Conn) (now : ℕ) (p : Place) → openAt p c now ≡ performOpen c (openIn (vacancyOf p) (record { 0 = c .nextId }) (c .nextId + 2) now)
+unfolding openAt performOpen
+open-at c now nowhere = refl
+open-at c now (at i) = refl
+
+pub open-performs : (c : Conn) (now : ℕ) →
+    open-rules c now
+    ≡ performOpen c (openAction (listedCount (c .slots)) (c .config .«max_num_streams») (unacknowledged (c .config .mode) (c .slots)) (c .nextId) (vacancyOf (lowestFree (c .slots))) now)
+unfolding open-rules openAction performOpen
+open-performs c now =
+    both (performOpen c) (leb (c .config .«max_num_streams») (listedCount (c .slots))) refl
+    (both (performOpen c) (leb 256 (unacknowledged (c .config .mode) (c .slots))) refl
+    (both (λ x. performOpen c (openWith x (vacancyOf (lowestFree (c .slots))) now)) (ltb top (c .nextId + 2)) refl
+    (open-at c now (lowestFree (c .slots)))))
+
+-- ---- read
+
+-- a read that waits has taken nothing
+waits : (s t : Stream) (n : ℕ) (b : Bool) → eqb n 0 ≡ b →
+    cond b (cond (canRead (s .state)) (reading.Wait (stream.withWaits s true (s .writer))) (reading.Done s)) (reading.Done s) ≡ reading.Wait t → n ≡ 0
+waits s t n true e w = eqb-true n 0 e
+waits s t n false e w = cc
+
+module _ (c : Conn) (i : ℕ) (e : Entry) where
+  read-rest : (u : Updated) (n : ℕ) (r : Reading) → ((t : Stream) → r ≡ reading.Wait t → n ≡ 0) →
+      readRest c i e u n r ≡ performRead c (record { 0 = i }) e (readEnded (record { 0 = i }) u n r)
+  unfolding readRest performRead
+  read-rest u n (reading.Done s) z = refl
+  read-rest u n (reading.Wait s) z = rw (z s refl)
+
+  read-with : (u : Updated) (asked : ℕ) →
+      readWith c i e asked u ≡ performRead c (record { 0 = i }) e (onRead (record { 0 = i }) u (length (e .bytes)) asked)
+  unfolding readWith onRead
+  read-with u asked =
+      let n = min asked (length (e .bytes)) in
+      read-rest u n (stream.readEnd (u .stream) n) (λ t w. waits (u .stream) t n (eqb n 0) refl w)
+
+shut : (a b : Bool) → cond a (cond b false true) false ≡ isShut a b
+shut true true = refl
+shut true false = refl
+shut false b = refl
+
+pub read-performs : (c : Conn) (i : ℕ) (e : Entry) (asked now : ℕ) →
+    readRules c i e asked now
+    ≡ cond (isShut (c .ended) (c .config .«read_after_close»))
+    (gives (outcomeOf (nothingRead (record { 0 = i }))) c)
+    (performRead c (record { 0 = i }) e (onRead (record { 0 = i }) (windowStep c e now) (length (e .bytes)) asked))
+unfolding readRules
+read-performs c i e asked now = rw (shut (c .ended) (c .config .«read_after_close»), read-with c i e (windowStep c e now) asked)
+
+-- ---- drop
+
+module _ (c : Conn) (i : ℕ) (e : Entry) where
+  -- the connection with the growth of the handle returned
+  abbrev pub returned : Conn
+  returned = withGrowth c (growthReturned (c .growth) (e .stream))
+
+  drop-at : (p : Place) → livesAt c p → dropAt p returned i ≡ freed i (perform returned returned [] (onDrop (record { 0 = i }) (tableAt c p)))
+  unfolding dropAt freed perform onDrop
+  drop-at nowhere l = refl
+  drop-at (at j) l = rw (l .1, append-nil)
+
+  pub drop-performs : ListedHeld c →
+      dropRules c i e ≡ freed i (perform returned returned [] (onDrop (record { 0 = i }) (tableAt c (find (c .slots) (e .stream .id)))))
+  unfolding dropRules
+  drop-performs held = drop-at (find (c .slots) (e .stream .id)) (find-lives c (e .stream .id) held)
+
+-- where the stream removed is the handle's own, freeing the slot is all that is left
+pub drop-own : (c : Conn) (i : ℕ) (s : Stream) (listed : Bool) (o : Answer) →
+    freed i (perform c c [] (action.Store (record { 0 = i }) s listed o)) ≡ gives (outcomeOf o) (withSlot c i vacant)
+unfolding freed perform
+drop-own c i s listed o = rw set-set
+
+-- ---- tick
+
+ping-out : (c : Conn) (r : Rtt) (p : NextPing) → pingOut p (withPings c r) ≡ heardBy c (pingSent r p)
+unfolding pingOut
+ping-out c r ask.None = refl
+ping-out c r (ask.Ping h) = refl
+
+pub tick-performs : (c : Conn) (now : ℕ) → tickRules c now ≡ heardBy c (onTick (c .pings) now)
+unfolding tickRules onTick
+tick-performs c now = ping-out c (nextPing (c .pings) now .rtt) (nextPing (c .pings) now .ping)

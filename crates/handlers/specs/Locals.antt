@@ -1,0 +1,182 @@
+-- The local calls as actions: what the rules of `rules/specs/Calls` do, said of one stream's value and of numbers.
+use mathlib.Core.Bool.{Bool, true, false, cond, not}
+use mathlib.Core.List.{List, []}
+use Prim.Native.Nat.{ℕ, _+_, _-_, min}
+use lib.Dec.{ltb, leb}
+use lib.ListN.{take}
+use Rattle.frame.specs.Header.{initialWindow}
+use Rattle.frame.specs.declared.header.StreamId.{StreamId}
+use Rattle.rtt.specs.Pings.{nextPing}
+use Rattle.rtt.specs.declared.Rtt.{Rtt}
+use Rattle.rtt.specs.declared.NextPing.{NextPing}
+use Rattle.rtt.specs.declared.NextPing.the-variants as ask
+use Rattle.flow_control.specs.Windows.{top}
+use Rattle.stream.specs.Streams as stream
+use Rattle.stream.specs.declared.Stream.{Stream}
+use Rattle.stream.specs.declared.Updated.{Updated}
+use Rattle.stream.specs.declared.Reading.{Reading}
+use Rattle.stream.specs.declared.Reading.the-variants as reading
+use Rattle.stream.specs.declared.Written.{Written}
+use Rattle.stream.specs.declared.Written.the-variants as written
+use Rattle.stream.specs.declared.Sent.{Sent}
+use Rattle.stream.specs.declared.Sent.the-variants.{Frame, Nothing}
+use Rattle.rules.specs.Lists.{Place, at, nowhere}
+use Rattle.rules.specs.Replies.{Outcome, noWakes, bare}
+use Rattle.rules.specs.State.{Entry, Conn, entry, vacant, withSlot, withGrowth, withNextId, withOpenWait}
+use Rattle.rules.specs.Ending.{Result, gives, refuse, end}
+use Rattle.rules.specs.Frames.{quiet, newEntry}
+use Rattle.rules.specs.Calls.{readEntry}
+use Rattle.rules.specs.declared.Slot.{Slot}
+use Rattle.rules.specs.declared.Reply.{Reply}
+use Rattle.rules.specs.declared.Reply.the-variants as reply
+use Rattle.rules.specs.declared.Which.the-variants as which
+use Rattle.rules.specs.declared.Value.{Value}
+use Rattle.rules.specs.declared.Value.the-variants as value
+use Rattle.handlers.specs.Actions.{done, noAction}
+use Rattle.handlers.specs.declared.Answer.{Answer}
+use Rattle.handlers.specs.declared.Known.{Known}
+use Rattle.handlers.specs.declared.Known.the-variants as known
+use Rattle.handlers.specs.declared.Vacancy.{Vacancy}
+use Rattle.handlers.specs.declared.Vacancy.the-variants as vacancy
+use Rattle.handlers.specs.declared.Action.{Action}
+use Rattle.handlers.specs.declared.Action.the-variants as action
+use Rattle.handlers.specs.declared.Pong.{Pong}
+use Rattle.handlers.specs.declared.NextId.{NextId}
+use Rattle.handlers.specs.declared.NextId.the-variants as next
+use Rattle.handlers.specs.declared.Opening.{Opening}
+use Rattle.handlers.specs.declared.Opening.the-variants as opening
+use Rattle.handlers.specs.declared.ReadStep.{ReadStep}
+
+-- the answer of a call on a handle
+abbrev pub slotAnswer : Slot → Reply → Value → Sent → Answer
+slotAnswer i r v h = record { reply = r; slot = which.At i; value = v; sent = h; wakes = noWakes }
+
+-- ---- write
+
+abbrev pub writeAction : Slot → Bool → Written → Action
+writeAction i listed written.Closed = action.Refuse reply.WriteClosed
+writeAction i listed (written.Wait s) = action.Store i s listed (slotAnswer i reply.Wait value.None Nothing)
+writeAction i listed (written.Frame s h) = action.Store i s listed (slotAnswer i reply.Done (value.Of (h .length .0)) (Frame h))
+
+-- "Write: connection ended, or state SendClosed or Closed, 6; send window 0, wait; else .."
+unfoldable pub onWrite : Bool → Slot → Stream → Bool → ℕ → ℕ → Action
+onWrite ended i s listed given split = cond ended (action.Refuse reply.WriteClosed) (writeAction i listed (stream.write s given split))
+
+-- "a Data frame carries the first n bytes": those that the header's length counts
+abbrev pub bodyOf : Sent → List ℕ → List ℕ
+bodyOf Nothing given = []
+bodyOf (Frame h) given = take (h .length .0) given
+
+unfoldable pub carrying : List ℕ → Result → Result
+carrying given r = record {
+  outcome = record {
+    reply = r .outcome .reply;
+    slot = r .outcome .slot;
+    value = r .outcome .value;
+    header = r .outcome .header;
+    body = bodyOf (r .outcome .header) given;
+    wakes = r .outcome .wakes;
+    bytes = r .outcome .bytes;
+  };
+  after = r .after;
+}
+
+-- ---- close
+
+-- "Close: Closed, done without a frame. Else FIN .."
+unfoldable pub onClose : Slot → Stream → Bool → Action
+onClose i s listed = action.Store i (stream.close s .stream) listed (slotAnswer i reply.Done value.None (stream.close s .sent))
+
+-- ---- open
+
+-- "When next id + 2 passes 2^32-1, reply 4"
+abbrev pub nextStreamId : ℕ → NextId
+nextStreamId n = cond (ltb top (n + 2)) next.NoMore (next.Id (record { 0 = n }) (n + 2))
+
+abbrev pub openIn : Vacancy → StreamId → ℕ → ℕ → Opening
+openIn vacancy.Nowhere id after now = opening.Refuse reply.NoSlot
+openIn (vacancy.At i) id after now = opening.New i (stream.newOutbound id now) after
+
+abbrev pub openWith : NextId → Vacancy → ℕ → Opening
+openWith next.NoMore v now = opening.End reply.NoMoreStreamIds
+openWith (next.Id id after) v now = openIn v id after now
+
+-- "Open: table at M or more, 3; 256 or more own-parity streams Open and unacknowledged, wait"
+unfoldable pub openAction : ℕ → ℕ → ℕ → ℕ → Vacancy → ℕ → Opening
+openAction listed m backlog nextId v now =
+    cond (leb m listed)
+    (opening.End reply.TooManyStreams)
+    (cond (leb 256 backlog) opening.Wait (openWith (nextStreamId nextId) v now))
+
+unfoldable pub performOpen : Conn → Opening → Result
+performOpen c (opening.End r) = end c r
+performOpen c opening.Wait = gives (bare reply.Wait) (withOpenWait c true)
+performOpen c (opening.Refuse r) = refuse c r
+performOpen c (opening.New i s after) =
+    gives
+    (record { reply = reply.Done; slot = which.At i; value = value.Of (s .id .0); header = Nothing; body = []; wakes = noWakes; bytes = [] })
+    (withSlot (withNextId c after) (i .0) (newEntry s []))
+
+-- ---- read
+
+-- "ended with read-after-close off, done with 0 bytes"
+abbrev pub isShut : Bool → Bool → Bool
+isShut ended readAfterClose = cond ended (not readAfterClose) false
+
+abbrev pub nothingRead : Slot → Answer
+nothingRead i = slotAnswer i reply.Done (value.Of 0) Nothing
+
+abbrev pub readEnded : Slot → Updated → ℕ → Reading → ReadStep
+readEnded i u n (reading.Done s) = record { stream = s; growth = u .growth; count = n; answer = slotAnswer i reply.Done (value.Of n) (u .sent) }
+readEnded i u n (reading.Wait s) = record { stream = s; growth = u .growth; count = n; answer = slotAnswer i reply.Wait value.None (u .sent) }
+
+-- after the window step: "then the oldest min(asked, unread) bytes in their order; if that is 0: done with 0 in RecvClosed or
+-- Closed, else wait"
+unfoldable pub onRead : Slot → Updated → ℕ → ℕ → ReadStep
+onRead i u unread asked = readEnded i u (min asked unread) (stream.readEnd (u .stream) (min asked unread))
+
+-- the oldest bytes of the entry e go out, as many as the step counts
+unfoldable pub performRead : Conn → Slot → Entry → ReadStep → Result
+performRead c i e r =
+    gives
+    (record {
+      reply = r .answer .reply;
+      slot = r .answer .slot;
+      value = r .answer .value;
+      header = r .answer .sent;
+      body = [];
+      wakes = r .answer .wakes;
+      bytes = take (r .count) (e .bytes);
+    })
+    (withSlot (withGrowth c (r .growth)) (i .0) (readEntry e (r .stream) (r .count)))
+
+-- ---- drop
+
+-- "removes from the table whichever stream has that id, making it Closed": the stream found is `known`, the handle's slot i
+unfoldable pub onDrop : Slot → Known → Action
+onDrop i known.Nowhere = action.Answer (slotAnswer i reply.Done value.None Nothing)
+onDrop i (known.At j s) =
+    action.Store j (stream.dropped s .stream) false (done false (which.At i) value.None (stream.dropped s .sent) (stream.dropped s .wakes))
+
+-- the stream in the table at a place, as it is
+abbrev pub tableAt : Conn → Place → Known
+tableAt c nowhere = known.Nowhere
+tableAt c (at i) = known.At (record { 0 = i }) (entry (c .slots) i .stream)
+
+-- "frees the slot"
+unfoldable pub freed : ℕ → Result → Result
+freed i r = record { outcome = r .outcome; after = withSlot (r .after) i vacant }
+
+-- "A dropped handle returns its growth once."
+abbrev pub growthReturned : ℕ → Stream → ℕ
+growthReturned growth s = growth - (s .flow .«max_receive_window» - initialWindow)
+
+-- ---- tick
+
+abbrev pub pingSent : Rtt → NextPing → Pong
+pingSent r ask.None = record { rtt = r; answer = noAction false }
+pingSent r (ask.Ping h) = record { rtt = r; answer = done false which.None (value.Of (h .length .0)) (Frame h) quiet }
+
+-- "no ping outstanding and due time <= now: Ping SYN with the next id .. No ping to send: done."
+unfoldable pub onTick : Rtt → ℕ → Pong
+onTick r now = pingSent (nextPing r now .rtt) (nextPing r now .ping)

@@ -1,0 +1,166 @@
+// The handlers on values: what a frame or a call does to its stream and to the connection, before any lent memory is touched.
+mod answers;
+pub mod calls;
+pub mod known_stream;
+pub mod open;
+pub mod ping;
+pub mod read;
+pub mod syn;
+
+ghost use mathlib.Core.Path.{_≡_};
+ghost use Rattle.handlers.specs.Actions.{acked, onReset};
+ghost use Rattle.handlers.specs.Perform.{dataAction, updateAction};
+use frame::header::ACK;
+use frame::header::Header;
+use frame::header::RST;
+use frame::header::SYN;
+use frame::header::StreamId;
+use rtt::Rtt;
+use rules::Mode;
+use rules::Reply;
+use rules::Slot;
+use rules::Value;
+use rules::Which;
+use rules::Woke;
+use stream::Sent;
+use stream::Stream;
+
+// What a call answers, but for bytes: a body and bytes read stand in lent memory.
+pub struct Answer {
+    pub reply: Reply,
+    pub slot: Which,
+    pub value: Value,
+    pub sent: Sent,
+    pub wakes: Woke,
+}
+
+// The frame's stream in the table, as the ACK step left it.
+pub enum Known {
+    At(Slot, Stream),
+    Nowhere,
+}
+
+// The lowest free slot.
+pub enum Vacancy {
+    At(Slot),
+    Nowhere,
+}
+
+// What is to be done to the table and the pool.
+pub enum Action {
+    // Nothing: all is as before the frame.
+    Refuse(Reply),
+    // Nothing to the table.
+    Answer(Answer),
+    // The stream at the slot is now this one, and in the table or not.
+    Store(Slot, Stream, bool, Answer),
+    // The same, and the frame's body is queued.
+    Queue(Slot, Stream, bool, Answer),
+    // A new stream takes the slot, with the frame's body queued.
+    New(Slot, Stream, Answer),
+}
+
+// The pings after a Ping frame, and what it answers.
+pub struct Pong {
+    pub rtt: Rtt,
+    pub answer: Answer,
+}
+
+// The id of an own stream and the one after it.
+pub enum NextId {
+    Id(StreamId, u32),
+    NoMore,
+}
+
+// What an open does.
+pub enum Opening {
+    // The connection ends.
+    End(Reply),
+    Wait,
+    Refuse(Reply),
+    // A new stream takes the slot; the number is the next id.
+    New(Slot, Stream, u32),
+}
+
+// What a read leaves and answers; `count` bytes are read.
+pub struct ReadStep {
+    pub stream: Stream,
+    pub growth: u64,
+    pub count: u32,
+    pub answer: Answer,
+}
+
+// The connection's part in the SYN rules.
+pub struct Limits {
+    pub mode: Mode,
+    pub max_num_streams: u32,
+    pub listed: u32,
+    pub room: u32,
+}
+
+// The stream after the frame's ACK step.
+pub fn acked(header: Header, stream: Stream) -> Stream
+    ensures { λ r. ⌜ r ≡ acked header stream ⌝ }
+{
+    let flags = header.flags;
+    if flags.contains(ACK) {
+        return stream.acknowledge();
+    }
+    stream
+}
+
+// The stream is closed for good and leaves the table.
+pub fn on_reset(woke: bool, known: Known) -> Action
+    ensures { λ r. ⌜ r ≡ onReset woke known ⌝ }
+{
+    let Known::At(slot, stream) = known else {
+        let answer = answers::no_action(woke);
+        return Action::Answer(answer);
+    };
+    let woken = stream.reset();
+    let closed = woken.stream;
+    let answer = answers::told(woke, slot, woken.wakes);
+    Action::Store(slot, closed, false, answer)
+}
+
+// What a Data frame does. The vacancy matters only with SYN and without RST.
+pub fn on_data(
+    limits: Limits,
+    woke: bool,
+    known: Known,
+    vacancy: Vacancy,
+    header: Header,
+    now: u64,
+) -> Action
+    ensures { λ r. ⌜ r ≡ dataAction limits woke known vacancy header now ⌝ }
+{
+    let flags = header.flags;
+    if flags.contains(RST) {
+        return on_reset(woke, known);
+    }
+    if flags.contains(SYN) {
+        return syn::on_syn_data(limits, woke, known, vacancy, header, now);
+    }
+    known_stream::on_known_data(limits.room, woke, known, header)
+}
+
+// What a WindowUpdate does. The vacancy matters only with SYN and without RST.
+pub fn on_window_update(
+    limits: Limits,
+    woke: bool,
+    known: Known,
+    vacancy: Vacancy,
+    header: Header,
+    now: u64,
+) -> Action
+    ensures { λ r. ⌜ r ≡ updateAction limits woke known vacancy header now ⌝ }
+{
+    let flags = header.flags;
+    if flags.contains(RST) {
+        return on_reset(woke, known);
+    }
+    if flags.contains(SYN) {
+        return syn::on_syn_update(limits, woke, known, vacancy, header, now);
+    }
+    known_stream::on_known_update(woke, known, header)
+}

@@ -1,0 +1,62 @@
+// Pings and pongs.
+ghost use mathlib.Core.Path.{_≡_};
+ghost use Rattle.handlers.specs.Actions.{pongHeard, pingHeard, onPing};
+use crate::Pong;
+use crate::answers;
+use frame::header::ACK;
+use frame::header::Header;
+use rtt::Rtt;
+use rules::Value;
+use rules::Which;
+use stream::Sent;
+use stream::Wakes;
+
+fn pong_heard(rtt: Rtt, heard: rtt::Pong) -> Pong
+    ensures { λ r. ⌜ r ≡ pongHeard rtt heard ⌝ }
+{
+    let rtt::Pong::Accepted(after) = heard else {
+        let answer = answers::protocol_error(false);
+        return Pong { rtt, answer };
+    };
+    let answer = answers::no_action(false);
+    Pong { rtt: after, answer }
+}
+
+// The answer to a Ping that asks.
+fn ping_heard(rtt: Rtt, value: u32) -> Pong
+    ensures { λ r. ⌜ r ≡ pingHeard rtt value ⌝ }
+{
+    let quiet = Wakes {
+        reader: false,
+        writer: false,
+    };
+    let header = Header::ping(value).ack();
+    let answer = answers::done(
+        false,
+        Which::None,
+        Value::Of(value),
+        Sent::Frame(header),
+        quiet,
+    );
+    Pong { rtt, answer }
+}
+
+// What a Ping does; `in_table` says whether its stream is in the table.
+pub fn on_ping(rtt: Rtt, in_table: bool, header: Header, now: u64, interval: u64) -> Pong
+    ensures { λ r. ⌜ r ≡ onPing rtt «in_table» header now interval ⌝ }
+{
+    let flags = header.flags;
+    if flags.contains(ACK) {
+        let heard = rtt.handle_pong(header.length.0, now, interval);
+        return pong_heard(rtt, heard);
+    }
+    let id = header.stream_id;
+    if id.is_session() {
+        return ping_heard(rtt, header.length.0);
+    }
+    if in_table {
+        return ping_heard(rtt, header.length.0);
+    }
+    let answer = answers::no_action(false);
+    Pong { rtt, answer }
+}

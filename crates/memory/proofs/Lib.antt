@@ -1,0 +1,6 @@
+-- The laws of valid memory, and of what a change of one slot leaves.
+pub mod Lists
+pub mod Laws
+pub mod Ranges
+pub mod Changes
+pub mod Ends

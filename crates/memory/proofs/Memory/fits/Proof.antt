@@ -1,0 +1,31 @@
+-- `memory::Memory::fits` meets its contract. Assumes nothing.
+use mathlib.Core.Path.{sym, _∙_}
+use borrow.Author.Needs.{needs}
+use borrow.Author.Tests.{eq-eqb, ne-eqb}
+use Rattle.memory.proofs.Memory.fits.Statement.{statement}
+use Rattle.memory.proofs.Memory.fits.Tie as tie
+
+size-requires : tie.Need-size-requires
+size-requires c κs = search needs
+
+blocks-requires : tie.Need-blocks-requires
+blocks-requires c κs = search needs
+
+pool-len-requires : tie.Need-pool-len-requires
+pool-len-requires c κs = search needs
+
+returns : tie.Need-returns
+returns c =
+    rw (eq-eqb _ _ (c .before .before .before .if1 .taken ∙ c .before .before .before .before .size .ensures), eq-eqb _ _ (c .before .if2 .taken ∙ c .before .before .blocks2 .ensures), c .pool-len .ensures)
+
+returns-2 : tie.Need-returns-2
+returns-2 c =
+    rw (eq-eqb _ _ (c .before .before .if1 .taken ∙ c .before .before .before .size .ensures), ne-eqb _ _ (λ e. c .if2 .left (e ∙ sym (c .before .blocks2 .ensures))))
+
+returns-3 : tie.Need-returns-3
+returns-3 c = rw (ne-eqb _ _ (λ e. c .if1 .left (e ∙ sym (c .before .size .ensures))))
+
+pub fits-spec : {M : Type 1} → statement M
+fits-spec =
+    tie.close
+    (tie.spec size-requires blocks-requires pool-len-requires returns returns-2 returns-3)
