@@ -1,5 +1,5 @@
 -- What a stream takes of a frame, by the test that the rules make. Assumes nothing.
-use mathlib.Core.Path.{_≡_, refl, sym, _∙_}
+use mathlib.Core.Path.{_≡_, refl}
 use mathlib.Core.Bool.{Bool, true, false, cond}
 use Prim.Native.Nat.{ℕ, _+_, _≤_}
 use lib.Dec.{ltb, leb}
@@ -15,7 +15,6 @@ use Rattle.stream.specs.Streams.{newInbound, withState, dataTaken, onData, upda
 use Rattle.stream.specs.declared.State.the-variants.{Open}
 use Rattle.stream.specs.declared.Stream.{Stream}
 use Rattle.stream.specs.declared.Wakes.{Wakes}
-use Rattle.stream.specs.declared.Received.{Received}
 use Rattle.stream.specs.declared.Received.the-variants.{Taken, ProtocolError}
 use Rattle.rules.specs.Frames.{openedBy}
 

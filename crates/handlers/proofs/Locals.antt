@@ -1,6 +1,6 @@
 -- Performing the actions of local calls is what the rules of calls say. Assumes nothing.
-use mathlib.Core.Path.{_≡_, refl, ap, sym, _∙_}
-use mathlib.Core.Bool.{Bool, true, false, cond, not}
+use mathlib.Core.Path.{_≡_, refl}
+use mathlib.Core.Bool.{Bool, true, false, cond}
 use mathlib.Core.List.{List, [], append-nil}
 use Prim.Native.Nat.{ℕ, _+_, min}
 use lib.ListN.{length}
@@ -22,9 +22,8 @@ use Rattle.stream.specs.declared.Written.{Written}
 use Rattle.stream.specs.declared.Written.the-variants as written
 use Rattle.rules.specs.Lists.{Place, at, nowhere}
 use Rattle.rules.specs.State.{Entry, Conn, entry, vacant, find, withSlot, withPings, withGrowth, lowestFree, listedCount, unacknowledged}
-use Rattle.rules.specs.Ending.{Result, gives}
+use Rattle.rules.specs.Ending.{gives}
 use Rattle.rules.specs.Calls.{openAt, open-rules, readRest, readWith, windowStep, readRules, writeWith, writeRules, closeRules, dropAt, dropRules, pingOut, tickRules}
-use Rattle.rules.specs.declared.Slot.{Slot}
 use Rattle.handlers.specs.Perform.{outcomeOf, perform, vacancyOf}
 use Rattle.handlers.specs.Locals.{writeAction, onWrite, carrying, onClose, openIn, openWith, openAction, performOpen, isShut, nothingRead, readEnded, onRead, performRead, onDrop, tableAt, freed, growthReturned, pingSent, onTick}
 use Rattle.handlers.specs.declared.Answer.{Answer}

@@ -1,9 +1,9 @@
 -- Performing the handlers' actions is what the rules of frames say. Assumes nothing.
 use mathlib.Core.Path.{_≡_, refl, ap, sym, _∙_}
 use mathlib.Core.Bool.{Bool, true, false, cond}
-use mathlib.Core.List.{List, [], _++_, append-nil}
+use mathlib.Core.List.{List, [], append-nil}
 use Prim.Native.Nat.{ℕ, _+_, _<_}
-use lib.ListN.{length, set}
+use lib.ListN.{length}
 use lib.Seq.{getD-set-same, set-set, set-getD}
 use lib.Dec.{eqb, ltb, leb}
 use borrow.Author.Tests.{le-ltb}
@@ -27,7 +27,7 @@ use Rattle.rules.specs.Frames.{Acked, openedBy, ackStep, makeAt, make, synRules
 use Rattle.rules.specs.declared.Slot.{Slot}
 use Rattle.handlers.specs.Actions as actions
 use Rattle.handlers.specs.Actions.{terminate, synAction, newAction, firstData, firstUpdate, onSynData, onSynUpdate, dataTake, updateTake, onKnownData, onKnownUpdate, pongHeard, onPing}
-use Rattle.handlers.specs.Perform.{outcomeOf, changed, perform, knownAt, vacancyOf, limitsOf, wakesOpen, withoutWait, dataAction, updateAction}
+use Rattle.handlers.specs.Perform.{outcomeOf, perform, knownAt, vacancyOf, limitsOf, wakesOpen, withoutWait, dataAction, updateAction}
 use Rattle.handlers.specs.declared.Known.{Known}
 use Rattle.handlers.specs.declared.Known.the-variants as known
 use Rattle.handlers.specs.declared.Vacancy.{Vacancy}

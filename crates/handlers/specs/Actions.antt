@@ -10,8 +10,8 @@ use Rattle.rtt.specs.declared.Rtt.{Rtt}
 use Rattle.rtt.specs.declared.Pong as heard
 use Rattle.rtt.specs.declared.Pong.the-variants.{Accepted, Unexpected}
 use Rattle.flow_control.specs.Windows.{top}
-use Rattle.stream.specs.States.{finish, isClosed}
-use Rattle.stream.specs.Streams.{newInbound, dataTaken, withState, onData, onWindowUpdate, reset, acknowledged}
+use Rattle.stream.specs.States.{isClosed}
+use Rattle.stream.specs.Streams.{newInbound, dataTaken, onData, onWindowUpdate, reset, acknowledged}
 use Rattle.stream.specs.declared.Stream.{Stream}
 use Rattle.stream.specs.declared.Wakes.{Wakes}
 use Rattle.stream.specs.declared.Received.{Received}

@@ -21,7 +21,7 @@ use Rattle.stream.specs.declared.Written.the-variants as written
 use Rattle.stream.specs.declared.Sent.{Sent}
 use Rattle.stream.specs.declared.Sent.the-variants.{Frame, Nothing}
 use Rattle.rules.specs.Lists.{Place, at, nowhere}
-use Rattle.rules.specs.Replies.{Outcome, noWakes, bare}
+use Rattle.rules.specs.Replies.{noWakes, bare}
 use Rattle.rules.specs.State.{Entry, Conn, entry, vacant, withSlot, withGrowth, withNextId, withOpenWait}
 use Rattle.rules.specs.Ending.{Result, gives, refuse, end}
 use Rattle.rules.specs.Frames.{quiet, newEntry}

@@ -4,13 +4,10 @@ use mathlib.Core.List.{List, [], _++_}
 use Prim.Native.Nat.{ℕ}
 use Rattle.frame.specs.Header.{contains, ack, syn, rst}
 use Rattle.frame.specs.declared.header.Header.{Header}
-use Rattle.frame.specs.declared.header.Tag.{Tag}
-use Rattle.frame.specs.declared.header.Tag.the-variants as tag
 use Rattle.stream.specs.declared.Stream.{Stream}
-use Rattle.rules.specs.declared.Slot.{Slot}
 use Rattle.rules.specs.Replies.{Outcome}
 use Rattle.rules.specs.Lists.{Place, at, nowhere}
-use Rattle.rules.specs.State.{Entry, Conn, entry, withSlot, withOpenWait, lowestFree, listedCount, room}
+use Rattle.rules.specs.State.{Entry, Conn, entry, withSlot, withOpenWait, listedCount, room}
 use Rattle.rules.specs.Ending.{Result, gives, refuse}
 use Rattle.rules.specs.Frames.{newEntry}
 use Rattle.handlers.specs.Actions.{acked, onReset, onSynData, onSynUpdate, onKnownData, onKnownUpdate}

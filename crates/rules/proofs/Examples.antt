@@ -3,7 +3,7 @@ use mathlib.Core.Path.{_≡_, refl}
 use mathlib.Core.Bool.{Bool, true, false, cond}
 use mathlib.Core.List.{List, [], _∷_, map}
 use Prim.Native.Nat.{ℕ, _/_, _%_}
-use lib.ListN.{replicate}
+use lib.ListN.{getD, replicate}
 use lib.Dec.{eqb}
 use Rattle.frame.specs.declared.header.Header.{Header}
 use Rattle.frame.specs.declared.header.Tag.{Tag}
@@ -163,6 +163,23 @@ windows c growth window maximum =
     false)
     false
 
+-- The growth figure of a stream whose maximum doubled, then reset, then dropped: it falls at the drop, once.
+pub grownReset : Conn
+unfolding header readAfter
+grownReset = Step.step (readAfter 131072 2019 .after) (Step.frame 2019 (header 0 8 0) []) .after
+
+pub resetDropped : Conn
+unfolding grownReset
+resetDropped = Step.step grownReset (Step.drop 2019 0) .after
+
+-- the byte that a read of one gives of two
+pub older : ℕ
+unfolding config header
+older =
+    getD (Step.step
+    (Step.step (initial (config Client)) (Step.frame 0 (header 0 1 2) (7 ∷ 8 ∷ [])) .after)
+    (Step.read 0 0 1) .outcome .bytes) 0 0
+
 -- RST with SYN on an unknown id
 pub synReset : Result
 unfolding config header
@@ -184,7 +201,7 @@ grants (Frame h) n =
     false
 
 pub rows : List Bool
-unfolding numbered valued opens config header zeros synCredit synBody primed readAfter windows grants isUpdate
+unfolding numbered valued opens config header zeros synCredit synBody primed readAfter windows grants isUpdate grownReset resetDropped older
 rows =
     numbered (opens Client 4294967293) 0 4294967293
     ∷ eqb (number (opens Client 4294967295 .reply)) 4
@@ -201,6 +218,10 @@ rows =
     ∷ grants (readAfter 131072 2020 .outcome .header) 131072
     ∷ grants (readAfter 131071 2020 .outcome .header) 0
     ∷ grants (readAfter 131072 2019 .outcome .header) 393216
+    -- growth stays at the reset and goes back at the drop; a read gives the older byte
+    ∷ eqb (grownReset .growth) 262144
+    ∷ eqb (resetDropped .growth) 0
+    ∷ eqb older 7
     ∷ []
 
 pub all : List Bool → Bool
@@ -210,6 +231,6 @@ all (b ∷ bs) = cond b (all bs) false
 -- Every row holds, and SYN with RST on an unknown id does nothing.
 pub examples : (all rows ≡ true)
     × (synReset ≡ gives (bare reply.Done) (initial (config Client)))
-unfolding rows all numbered valued opens config header zeros synCredit synBody primed readAfter windows synReset grants isUpdate
+unfolding rows all numbered valued opens config header zeros synCredit synBody primed readAfter windows synReset grants isUpdate grownReset resetDropped older
     ackStep onReset makeAt make synRules synData synUpdate takeAt knownData knownUpdate dataRules updateRules pongRules pingRules frameRules onHeader openAt open-rules readRest readWith windowStep readRules writeWith writeRules closeRules dropAt dropRules pingOut tickRules onDecoded step
 examples = (refl, refl)
