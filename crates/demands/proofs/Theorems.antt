@@ -17,7 +17,7 @@ use Rattle.rules.specs.Step.{step, run}
 use Rattle.rules.specs.Step as rules
 use Rattle.demands.specs.Demands.{heldCount, wouldOpen}
 use Rattle.demands.specs.History.{event}
-use Rattle.demands.specs.Theorems.{GrowthIsASum, GrowthIsWithin, GrowthIsReturned, GrowthStays, WindowsAreWithin, BytesAreKept, UnreadIsTheRest, ReadsGiveTheNext, ReadsGiveAll, UnreadIsWithin, RoomForHandles, RoomForM, RoomForK, IdsAreOurs, IdsRise, ListedAreDistinct, ListedAreHeld, UnlistedAreClosed, FreeAreVacant, TableIsWithin, RefusalsChangeNothing, OnlyDoneGives, SettingsAreAllowed, SettingsStay}
+use Rattle.demands.specs.Theorems.{GrowthIsASum, GrowthIsWithin, GrowthIsReturned, GrowthStays, WindowsAreWithin, BytesAreKept, UnreadIsTheRest, ReadsGiveTheNext, ReadsGiveAll, UnreadIsWithin, RoomForHandles, RoomForM, RoomForK, IdsAreOurs, IdsRise, NextIdIsAbove, ListedAreDistinct, ListedAreHeld, UnlistedAreClosed, FreeAreVacant, TableIsWithin, RefusalsChangeNothing, OnlyDoneGives, SettingsAreAllowed, SettingsStay}
 use Rattle.demands.proofs.Lists.{split, true-not-false, sum-eq, sum-count}
 use Rattle.demands.proofs.Invariant.{Good, Inv}
 use Rattle.demands.proofs.Sound.{Crowded, moves}
@@ -134,6 +134,9 @@ ids-rise c r now later a b ks g h =
     let first = opens c now a g in
     let second = opens (run d ks .after) later b h in
     omega (arith, first .0, first .1, second .0, run-rises d v ks)
+
+pub next-id-is-above : NextIdIsAbove
+next-id-is-above c r = let v = reached r in (v .last, v .parity, v .below)
 
 pub listed-are-distinct : ListedAreDistinct
 listed-are-distinct c r = reached r .unique

@@ -15,7 +15,7 @@ use Rattle.rules.specs.declared.Mode.the-variants.{Client, Server}
 use Rattle.rules.specs.declared.Reply.the-variants as reply
 use Rattle.rules.specs.declared.Value.the-variants as value
 use Rattle.rules.specs.Settings.{lastTime}
-use Rattle.rules.specs.State.{Conn, vacant, entry, one, firstOwn, listedCount, unreadTotal}
+use Rattle.rules.specs.State.{Conn, vacant, entry, one, firstOwn, isOwn, listedCount, unreadTotal}
 use Rattle.rules.specs.Ending.{Result}
 use Rattle.rules.specs.Calls.{growthOf}
 use Rattle.rules.specs.Step.{step, run}
@@ -143,6 +143,13 @@ abbrev pub IdsRise : Type 0
 IdsRise =
     (c : Conn) → Reach c → (now later a b : ℕ) (ks : List rules.Call) →
     Gave (step c (rules.open-stream now)) a → Gave (step (run (step c (rules.open-stream now) .after) ks .after) (rules.open-stream later)) b → a < b
+
+-- The next id has 32 bits and our parity, and every held stream of our parity has an id below it.
+abbrev pub NextIdIsAbove : Type 0
+NextIdIsAbove =
+    (c : Conn) → Reach c →
+    (c .nextId ≤ top) × (c .nextId % 2 ≡ firstOwn (c .config .mode) % 2)
+    × ((i : ℕ) → entry (c .slots) i .held ≡ true → isOwn (c .config .mode) (entry (c .slots) i .stream .id) ≡ true → entry (c .slots) i .stream .id .0 < c .nextId)
 
 -- Ids of streams in the table are distinct.
 abbrev pub ListedAreDistinct : Type 0

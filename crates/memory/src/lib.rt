@@ -1,7 +1,6 @@
 // The lent memory as one: the stream table, the links and the pool, with what is counted beside them.
 ghost use mathlib.Core.Path.{_≡_};
 ghost use Prim.Native.Nat.{_+_, _-_, _%_, _^_};
-ghost use lib.ListN.{length};
 ghost use Rattle.table.specs.Table.{stored};
 ghost use Rattle.memory.specs.Counts.{left, fits, next, counted};
 ghost use Rattle.memory.specs.Moves.{Stores, Feeds, Drains, Makes, Frees, Ends, Starts};
