@@ -13,7 +13,7 @@ use Rattle.rules.specs.declared.Reply.the-variants as reply
 use Rattle.rules.specs.declared.Which.the-variants as which
 use Rattle.rules.specs.declared.Value.the-variants as value
 use Rattle.rules.specs.Settings.{lastTime}
-use Rattle.rules.specs.Replies.{Outcome}
+use Rattle.rules.specs.Replies.{Outcome, leavesAll}
 use Rattle.rules.specs.Ending.{Result, end}
 use Rattle.rules.specs.Step.{Call, step}
 use Rattle.handlers.specs.declared.Answer.{Answer}
@@ -22,24 +22,6 @@ use Rattle.connection.specs.declared.Connection.{Connection}
 use Rattle.connection.specs.declared.Done.{Done}
 use Rattle.connection.specs.declared.Gate.{Gate}
 use Rattle.connection.specs.declared.Gate.the-variants as gate
-
--- document 01's refusals that change nothing: 6 to 10, 13 and 14
-abbrev pub isRefusal : Reply → Bool
-isRefusal reply.Done = false
-isRefusal reply.Wait = false
-isRefusal reply.GoAway = false
-isRefusal reply.TooManyStreams = false
-isRefusal reply.NoMoreStreamIds = false
-isRefusal reply.Closed = false
-isRefusal reply.WriteClosed = true
-isRefusal reply.NoSlot = true
-isRefusal reply.NoRoom = true
-isRefusal reply.NotHeld = true
-isRefusal reply.Time = true
-isRefusal reply.Version = false
-isRefusal reply.Type = false
-isRefusal reply.Body = true
-isRefusal reply.Size = true
 
 -- the twelve lent bytes: a header that is given, else as they were
 abbrev pub sentAfter : Sent → List ℕ → List ℕ
@@ -92,4 +74,4 @@ Ends c t r d t′ = (l p : List ℕ) → Valid c t l p → Follows c t l p (end 
 pub record Promised (sized : Bool) (c : Connection) (t l p : List ℕ) (call : Call) (d : Done) (t′ l′ p′ : List ℕ) : Type 0 where
   pub steps : sized ≡ true → Valid c t l p → Follows c t l p (step (absOf c t l p) call) d t′ l′ p′
   pub wrong : sized ≡ false → d ≡ refused c reply.Size
-  pub refuses : isRefusal (d .answer .reply) ≡ true → (d .connection ≡ c) × (t′ ≡ t) × (l′ ≡ l) × (p′ ≡ p)
+  pub refuses : leavesAll (d .answer .reply) ≡ true → (d .connection ≡ c) × (t′ ≡ t) × (l′ ≡ l) × (p′ ≡ p)

@@ -15,8 +15,6 @@ use Rattle.frame.specs.declared.header.Decoded.the-variants as found
 use Rattle.rules.specs.declared.Settings.{Settings}
 use Rattle.rules.specs.declared.Config.{Config}
 use Rattle.rules.specs.declared.Checked.the-variants.{Fine}
-use Rattle.rules.specs.declared.Reply.{Reply}
-use Rattle.rules.specs.declared.Reply.the-variants as reply
 use Rattle.rules.specs.Settings.{checked}
 use Rattle.rules.specs.Lists.{sum}
 use Rattle.rules.specs.State.{Entry, Conn, initial, one, find, listedCount, isRemote}
@@ -67,39 +65,3 @@ opensDecoded (found.Header h) c body = opensAs (h .tag) c h body
 -- the same of a frame as it comes in
 abbrev pub wouldOpen : Conn → List ℕ → List ℕ → Bool
 wouldOpen c head body = opensDecoded (decoded head) c body
-
--- "nothing changed": the replies 6 to 10, 13 and 14
-abbrev pub leavesAll : Reply → Bool
-leavesAll reply.Done = false
-leavesAll reply.Wait = false
-leavesAll reply.GoAway = false
-leavesAll reply.TooManyStreams = false
-leavesAll reply.NoMoreStreamIds = false
-leavesAll reply.Closed = false
-leavesAll reply.WriteClosed = true
-leavesAll reply.NoSlot = true
-leavesAll reply.NoRoom = true
-leavesAll reply.NotHeld = true
-leavesAll reply.Time = true
-leavesAll reply.Version = false
-leavesAll reply.Type = false
-leavesAll reply.Body = true
-leavesAll reply.Size = true
-
--- "replies but 0, 1 and 2 give neither"
-abbrev pub mayGive : Reply → Bool
-mayGive reply.Done = true
-mayGive reply.Wait = true
-mayGive reply.GoAway = true
-mayGive reply.TooManyStreams = false
-mayGive reply.NoMoreStreamIds = false
-mayGive reply.Closed = false
-mayGive reply.WriteClosed = false
-mayGive reply.NoSlot = false
-mayGive reply.NoRoom = false
-mayGive reply.NotHeld = false
-mayGive reply.Time = false
-mayGive reply.Version = false
-mayGive reply.Type = false
-mayGive reply.Body = false
-mayGive reply.Size = false

@@ -20,7 +20,8 @@ use Rattle.rules.specs.Ending.{Result}
 use Rattle.rules.specs.Calls.{growthOf}
 use Rattle.rules.specs.Step.{step, run}
 use Rattle.rules.specs.Step as rules
-use Rattle.demands.specs.Demands.{Reach, heldCount, heldGrowth, wouldOpen, leavesAll, mayGive}
+use Rattle.rules.specs.Replies.{leavesAll, mayGive}
+use Rattle.demands.specs.Demands.{Reach, heldCount, heldGrowth, wouldOpen}
 use Rattle.demands.specs.History.{Heard, Story}
 
 -- ---- growth

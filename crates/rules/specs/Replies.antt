@@ -31,6 +31,42 @@ number reply.Type = 12
 number reply.Body = 13
 number reply.Size = 14
 
+-- "nothing changed": the replies 6 to 10, 13 and 14
+abbrev pub leavesAll : Reply → Bool
+leavesAll reply.Done = false
+leavesAll reply.Wait = false
+leavesAll reply.GoAway = false
+leavesAll reply.TooManyStreams = false
+leavesAll reply.NoMoreStreamIds = false
+leavesAll reply.Closed = false
+leavesAll reply.WriteClosed = true
+leavesAll reply.NoSlot = true
+leavesAll reply.NoRoom = true
+leavesAll reply.NotHeld = true
+leavesAll reply.Time = true
+leavesAll reply.Version = false
+leavesAll reply.Type = false
+leavesAll reply.Body = true
+leavesAll reply.Size = true
+
+-- "replies but 0, 1 and 2 give neither"
+abbrev pub mayGive : Reply → Bool
+mayGive reply.Done = true
+mayGive reply.Wait = true
+mayGive reply.GoAway = true
+mayGive reply.TooManyStreams = false
+mayGive reply.NoMoreStreamIds = false
+mayGive reply.Closed = false
+mayGive reply.WriteClosed = false
+mayGive reply.NoSlot = false
+mayGive reply.NoRoom = false
+mayGive reply.NotHeld = false
+mayGive reply.Time = false
+mayGive reply.Version = false
+mayGive reply.Type = false
+mayGive reply.Body = false
+mayGive reply.Size = false
+
 -- "settings ..: no connection made"
 abbrev pub checkedReply : Checked → Reply
 checkedReply (Fine c) = reply.Done
