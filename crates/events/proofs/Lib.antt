@@ -3,3 +3,4 @@ pub mod Inside
 pub mod More
 pub mod Moved
 pub mod Settings
+pub mod Examples

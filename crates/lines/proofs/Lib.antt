@@ -1,3 +1,4 @@
 pub mod Stored
 pub mod Texts
 pub mod Laws
+pub mod Examples
