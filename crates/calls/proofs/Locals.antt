@@ -1,0 +1,108 @@
+-- What a tick and a stream put back at its slot leave of a valid connection. Assumes nothing.
+use mathlib.Core.Path.{_≡_, refl, sym, ap, _∙_}
+use mathlib.Core.Bool.{Bool, true, false, cond}
+use mathlib.Core.List.{List, [], _∷_}
+use Prim.Native.Nat.{ℕ, zero, suc, _<_}
+use lib.ListN.{set}
+use Rattle.rtt.specs.Pings.{nextPing}
+use Rattle.rtt.specs.declared.Rtt.{Rtt}
+use Rattle.rtt.specs.declared.NextPing.{NextPing}
+use Rattle.rtt.specs.declared.NextPing.the-variants as ask
+use Rattle.stream.specs.declared.Stream.{Stream}
+use Rattle.rules.specs.State.{Entry, Conn, entry, withSlot, isOwn}
+use Rattle.rules.specs.Step.{tick, step}
+use Rattle.rules.specs.Calls.{tickRules}
+use Rattle.rules.specs.Ending.{refuse, gives}
+use Rattle.rules.specs.declared.Mode.{Mode}
+use Rattle.rules.specs.declared.Reply.{Reply}
+use Rattle.rules.specs.declared.Reply.the-variants as reply
+use Rattle.handlers.specs.Locals.{pingSent, onTick}
+use Rattle.handlers.specs.Perform.{outcomeOf}
+use Rattle.handlers.specs.declared.Answer.{Answer}
+use Rattle.handlers.proofs.Locals.{tick-performs}
+use Rattle.memory.specs.Moves as memory
+use Rattle.memory.specs.Slots.{slotsOf}
+use Rattle.memory.specs.declared.Memory.{Memory}
+use Rattle.connection.specs.Abstract.{absOf, Valid, Fresh}
+use Rattle.connection.specs.Promises.{gateOf, Follows}
+use Rattle.connection.specs.declared.Connection.{Connection}
+use Rattle.connection.specs.declared.Done.{Done}
+use Rattle.connection.specs.declared.Gate.the-variants as gate
+use Rattle.calls.specs.Parts.{pinged}
+use Rattle.calls.proofs.Promises.{gate-shut, gate-open}
+
+-- ---- tick
+
+module _ (c : Conn) (now : ℕ) where
+  pub tick-shut : (r : Reply) → gateOf (c .ended) now ≡ gate.Shut r → step c (tick now) ≡ refuse c r
+  unfolding step
+  tick-shut r e = gate-shut c now (tickRules c now) r e
+
+  pub tick-open : gateOf (c .ended) now ≡ gate.Open → step c (tick now) ≡ tickRules c now
+  unfolding step
+  tick-open e = gate-open c now (tickRules c now) e
+
+pub tick-done : (r : Rtt) (now : ℕ) → onTick r now .answer .reply ≡ reply.Done
+unfolding onTick
+tick-done r now = go (nextPing r now .ping)
+  where
+    go : (p : NextPing) → pingSent (nextPing r now .rtt) p .answer .reply ≡ reply.Done
+    go ask.None = refl
+    go (ask.Ping h) = refl
+
+module _ (c : Connection) (t l p : List ℕ) (v : Valid c t l p) where
+  pub tick-follows : (now : ℕ) → Follows c t l p (tickRules (absOf c t l p) now) (pinged c (onTick (c .rtt) now)) t l p
+  tick-follows now = rw (tick-performs (absOf c t l p) now) (record {
+    valid = record { memory = v .memory; slots = v .slots; pool = v .pool; fresh = record { parity = v .fresh .parity; below = v .fresh .below } };
+    after = refl;
+    says = record { reply = refl; slot = refl; value = refl; sent = refl; wakes = refl };
+    read = refl;
+  })
+
+-- ---- a stream put back
+
+-- the own ids in the table stay below n where the new entry has the old one's id, and is in the table only if that was
+kept-below : (es : List Entry) (i : ℕ) (e : Entry) (m : Mode) (n : ℕ)
+    → ((j : ℕ) → entry es j .listed ≡ true → isOwn m (entry es j .stream .id) ≡ true → entry es j .stream .id .0 < n)
+    → (e .listed ≡ true → entry es i .listed ≡ true) → e .stream .id ≡ entry es i .stream .id
+    → (j : ℕ) → entry (set es i e) j .listed ≡ true → isOwn m (entry (set es i e) j .stream .id) ≡ true → entry (set es i e) j .stream .id .0 < n
+kept-below [] i e m n old li id j h o = old j h o
+kept-below (x ∷ es) zero e m n old li id zero h o = rw id (old zero (li h) (rw id at o))
+kept-below (x ∷ es) zero e m n old li id (suc j) h o = old (suc j) h o
+kept-below (x ∷ es) (suc i) e m n old li id zero h o = old zero h o
+kept-below (x ∷ es) (suc i) e m n old li id (suc j) h o = kept-below es i e m n (λ k. old (suc k)) li id j h o
+
+-- the answer of a call that leaves the memory m
+abbrev pub keptDone : Connection → Memory → Answer → Done
+keptDone c m a = record {
+  connection = record {
+    config = c .config;
+    rtt = c .rtt;
+    ended = c .ended;
+    «next_id» = c .«next_id»;
+    «open_wait» = c .«open_wait»;
+    growth = c .growth;
+    memory = m;
+  };
+  answer = a;
+  read = 0;
+}
+
+module _ (c : Connection) (t l p : List ℕ) (v : Valid c t l p) (i : ℕ) (s : Stream) (listed : Bool) (a : Answer) (m : Memory) (t′ : List ℕ) where
+  pub keep-follows : memory.Follows (entry (slotsOf (c .memory) t l p) i) s listed
+      → memory.Moved (c .memory) t l p i (memory.held s listed (entry (slotsOf (c .memory) t l p) i .bytes)) m t′ l p
+      → Follows c t l p (gives (outcomeOf a) (withSlot (absOf c t l p) i (memory.held s listed (entry (slotsOf (c .memory) t l p) i .bytes)))) (keptDone c m a) t′ l p
+  keep-follows f moved = record {
+    valid = record {
+      memory = moved .valid;
+      slots = moved .same .0 ∙ v .slots;
+      pool = moved .same .1 ∙ v .pool;
+      fresh = record {
+        parity = v .fresh .parity;
+        below = rw (moved .slots) (kept-below (slotsOf (c .memory) t l p) i _ (c .config .mode) (c .«next_id») (v .fresh .below) (f .listed) (f .id));
+      };
+    };
+    after = rw (moved .slots);
+    says = record { reply = refl; slot = refl; value = refl; sent = refl; wakes = refl };
+    read = refl;
+  }

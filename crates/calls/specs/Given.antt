@@ -1,0 +1,27 @@
+-- The sizes that a call tests, and what it puts into lent output.
+use mathlib.Core.Path.{_≡_}
+use mathlib.Core.Bool.{Bool, true, false, cond}
+use mathlib.Core.List.{List}
+use Prim.Native.Nat.{ℕ}
+use lib.Dec.{eqb, ltb}
+use lib.ListN.{length}
+use Rattle.rules.specs.Replies.{mayGive}
+use Rattle.stream.specs.declared.Sent.the-variants.{Nothing}
+use Rattle.rules.specs.declared.Reply.{Reply}
+use Rattle.table.specs.Table.{size}
+use Rattle.connection.specs.Promises.{sentAfter}
+use Rattle.connection.specs.declared.Connection.{Connection}
+use Rattle.connection.specs.declared.Done.{Done}
+
+-- 01: "a lent table .. of the wrong size", where the table alone is lent
+abbrev pub tableSized : Connection → ℕ → Bool
+tableSized c n = eqb n (size (c .memory .slots))
+
+-- the same, with room for a header of twelve bytes
+abbrev pub sentSized : Connection → ℕ → ℕ → Bool
+sentSized c n s = cond (tableSized c n) (eqb s 12) false
+
+-- 01: "Lent output changes only in the bytes read and in the 12 of a header given; replies but 0, 1 and 2 give neither."
+pub record Gives (d : Done) (s s′ : List ℕ) : Type 0 where
+  pub header : s′ ≡ sentAfter (d .answer .sent) s
+  pub only : mayGive (d .answer .reply) ≡ false → (d .answer .sent ≡ Nothing) × (d .read ≡ 0)

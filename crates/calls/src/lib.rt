@@ -1,0 +1,205 @@
+// The calls of a connection but for frames: each is the rules' step of document 01.
+ghost use mathlib.Core.Path.{_≡_};
+ghost use mathlib.Core.List.{List};
+ghost use Prim.Native.Nat.{ℕ};
+ghost use lib.ListN.{length};
+ghost use Rattle.rules.specs.Step.{gone, tick, close};
+ghost use Rattle.handlers.specs.Locals.{onTick};
+ghost use Rattle.connection.specs.Promises.{Promised, sentAfter};
+ghost use Rattle.calls.specs.Given.{tableSized, sentSized, Gives};
+ghost use Rattle.calls.specs.Parts.{Over, pinged, handleOf, Keeps, Acts};
+use connection::Connection;
+use connection::Done;
+use connection::Gate;
+use handlers::Action;
+use handlers::Answer;
+use rules::Reply;
+use rules::Slot;
+use stream::Stream;
+use table::row::Row;
+
+// What a handle stands for: a held slot's row, or why there is none.
+enum Handle {
+    Held(Row),
+    Refused(Reply),
+}
+
+const LAST_TIME: u64 = 4611686018427387903;
+
+// Ends the connection.
+fn end(c: Connection, table: &mut [u64], reply: Reply) -> Done
+    ensures { λ r. ⌜ Over c (now (table .entry)) reply r (now (table .exit)) ⌝ }
+{
+    let done = connection::end(c, table, reply);
+    let after = done.connection;
+    let answer = connection::bare(reply, true);
+    Done {
+        connection: after,
+        answer,
+        read: 0,
+    }
+}
+
+// Whether a table of this length has its size.
+fn table_sized(c: Connection, len: usize) -> bool
+    ensures { λ r. ⌜ r ≡ tableSized c len ⌝ }
+{
+    let memory = c.memory;
+    let size = table::size(memory.slots);
+    len == size
+}
+
+// The same, with twelve bytes lent for a header.
+fn sent_sized(c: Connection, len: usize, sent_len: usize) -> bool
+    ensures { λ r. ⌜ r ≡ sentSized c len «sent_len» ⌝ }
+{
+    if table_sized(c, len) {
+        return sent_len == 12;
+    }
+    false
+}
+
+// The row of a handle that is held, for a call in time.
+fn held_row(k: u32, table: &[u64], slot: Slot, time: u64) -> Handle
+    ensures { λ r. ⌜ r ≡ handleOf k (now (table .entry)) (slot .0) time ⌝ }
+{
+    if LAST_TIME < time {
+        return Handle::Refused(Reply::Time);
+    }
+    let i = slot.0;
+    if k <= i {
+        return Handle::Refused(Reply::NotHeld);
+    }
+    let row = table::load(table, k, slot);
+    if row.held {
+        return Handle::Held(row);
+    }
+    Handle::Refused(Reply::NotHeld)
+}
+
+// Puts the stream at its slot, and gives the answer.
+fn keep(
+    c: Connection,
+    table: &mut [u64],
+    slot: Slot,
+    row: Row,
+    stream: Stream,
+    listed: bool,
+    answer: Answer,
+) -> Done
+    ensures { λ r. ⌜ Keeps c (now (table .entry)) (slot .0) row stream listed answer r (now (table .exit)) ⌝ }
+{
+    let config = c.config;
+    let rtt = c.rtt;
+    let memory = c.memory.store(table, slot, row, stream, listed);
+    Done {
+        connection: Connection {
+            config,
+            rtt,
+            ended: c.ended,
+            next_id: c.next_id,
+            open_wait: c.open_wait,
+            growth: c.growth,
+            memory,
+        },
+        answer,
+        read: 0,
+    }
+}
+
+// Does what was decided of a handle's stream. No call on a handle decides more than a refusal or a store.
+fn act(c: Connection, table: &mut [u64], sent: &mut [u8], row: Row, action: Action) -> Done
+    ensures { λ r. ⌜ Acts c (now (table .entry)) (now (sent .entry)) row action r (now (table .exit)) (now (sent .exit)) ⌝ }
+{
+    match action {
+        Action::Refuse(reply) => connection::refuse(c, reply),
+        Action::Answer(_) => connection::refuse(c, Reply::Size),
+        Action::Store(slot, stream, listed, answer) => {
+            let header = answer.sent;
+            connection::put(sent, header);
+            keep(c, table, slot, row, stream, listed, answer)
+        }
+        Action::Queue(_, _, _, _) => connection::refuse(c, Reply::Size),
+        Action::New(_, _, _) => connection::refuse(c, Reply::Size),
+    }
+}
+
+// The ping that is due, if one is.
+fn ping(c: Connection, sent: &mut [u8], time: u64) -> Done
+    ensures { λ r. ⌜ r ≡ pinged c (onTick (c .rtt) time) ⌝ }
+    ensures { λ r. ⌜ now (sent .exit) ≡ sentAfter (onTick (c .rtt) time .answer .sent) (now (sent .entry)) ⌝ }
+{
+    let config = c.config;
+    let rtt = c.rtt;
+    let memory = c.memory;
+    let pong = handlers::calls::on_tick(rtt, time);
+    let after = pong.rtt;
+    let answer = pong.answer;
+    let header = answer.sent;
+    connection::put(sent, header);
+    Done {
+        connection: Connection {
+            config,
+            rtt: after,
+            ended: c.ended,
+            next_id: c.next_id,
+            open_wait: c.open_wait,
+            growth: c.growth,
+            memory,
+        },
+        answer,
+        read: 0,
+    }
+}
+
+// Closes the handle's stream for writing.
+pub fn close(c: Connection, table: &mut [u64], sent: &mut [u8], slot: Slot, time: u64) -> Done
+    ensures { λ r. ⌜ ((l p : List ℕ) → Promised (sentSized c (length (now (table .entry))) (length (now (sent .entry)))) c (now (table .entry)) l p (close time (slot .0)) r (now (table .exit)) l p) ⌝ }
+    ensures { λ r. ⌜ Gives r (now (sent .entry)) (now (sent .exit)) ⌝ }
+{
+    let sized = sent_sized(c, table.len(), sent.len());
+    if !sized {
+        return connection::refuse(c, Reply::Size);
+    }
+    let memory = c.memory;
+    let found = held_row(memory.slots, &table[..], slot, time);
+    match found {
+        Handle::Refused(reply) => connection::refuse(c, reply),
+        Handle::Held(row) => {
+            let stream = row.stream;
+            let action = handlers::calls::on_close(slot, stream, row.listed);
+            act(c, table, sent, row, action)
+        }
+    }
+}
+
+// Time has come to `time`.
+pub fn tick(c: Connection, table: &[u64], sent: &mut [u8], time: u64) -> Done
+    ensures { λ r. ⌜ ((l p : List ℕ) → Promised (sentSized c (length (now (table .entry))) (length (now (sent .entry)))) c (now (table .entry)) l p (tick time) r (now (table .entry)) l p) ⌝ }
+    ensures { λ r. ⌜ Gives r (now (sent .entry)) (now (sent .exit)) ⌝ }
+{
+    let sized = sent_sized(c, table.len(), sent.len());
+    if !sized {
+        return connection::refuse(c, Reply::Size);
+    }
+    let gate = connection::judge(c.ended, time);
+    match gate {
+        Gate::Shut(reply) => connection::refuse(c, reply),
+        Gate::Open => ping(c, sent, time),
+    }
+}
+
+// The peer is gone: the connection ends.
+pub fn peer_gone(c: Connection, table: &mut [u64], time: u64) -> Done
+    ensures { λ r. ⌜ ((l p : List ℕ) → Promised (tableSized c (length (now (table .entry)))) c (now (table .entry)) l p (gone time) r (now (table .exit)) l p) ⌝ }
+{
+    let sized = table_sized(c, table.len());
+    if !sized {
+        return connection::refuse(c, Reply::Size);
+    }
+    let gate = connection::judge(c.ended, time);
+    match gate {
+        Gate::Shut(reply) => connection::refuse(c, reply),
+        Gate::Open => end(c, table, Reply::Closed),
+    }
+}

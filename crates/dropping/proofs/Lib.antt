@@ -1,0 +1,2 @@
+-- Laws that the proofs of the drop share.
+pub mod Dropping

@@ -1,0 +1,131 @@
+// The drop of a handle: the rules' step of document 01.
+ghost use mathlib.Core.Path.{_≡_};
+ghost use Rattle.dropping.specs.Given.{sized};
+ghost use Rattle.dropping.specs.Parts.{released, Puts, Takes, Removes, Releases};
+use connection::Connection;
+use connection::Done;
+use handlers::Action;
+use handlers::Answer;
+use handlers::Known;
+use handlers::calls;
+use memory::Memory;
+use rules::Slot;
+use stream::Stream;
+use table::Found;
+use table::row::Row;
+
+// What is left once the stream with the handle's id is out of the table, and what the drop answers.
+pub struct Removed {
+    pub memory: Memory,
+    pub answer: Answer,
+}
+
+// Whether lent slices of these lengths have their sizes.
+fn sized(c: Connection, table_len: usize, links_len: usize, sent_len: usize) -> bool
+    ensures { λ r. ⌜ r ≡ sized c «table_len» «links_len» «sent_len» ⌝ }
+{
+    let memory = c.memory;
+    let k = memory.slots;
+    let p = memory.pool;
+    if table_len == table::size(k) {
+        if links_len == chunks::blocks(k, p) {
+            return sent_len == 12;
+        }
+    }
+    false
+}
+
+// The connection with this growth and this memory, and the answer.
+fn released(c: Connection, growth: u64, memory: Memory, answer: Answer) -> Done
+    ensures { λ r. ⌜ r ≡ released c growth memory answer ⌝ }
+{
+    let config = c.config;
+    let rtt = c.rtt;
+    Done {
+        connection: Connection {
+            config,
+            rtt,
+            ended: c.ended,
+            next_id: c.next_id,
+            open_wait: c.open_wait,
+            growth,
+            memory,
+        },
+        answer,
+        read: 0,
+    }
+}
+
+// Puts the stream at its place, if that is not the handle's own slot, which is freed next.
+fn put(
+    memory: Memory,
+    table: &mut [u64],
+    slot: Slot,
+    place: Slot,
+    row: Row,
+    stream: Stream,
+    listed: bool,
+) -> Memory
+    ensures { λ r. ⌜ Puts memory (now (table .entry)) slot place row stream listed r (now (table .exit)) ⌝ }
+{
+    let i = slot.0;
+    let j = place.0;
+    if i == j {
+        return memory;
+    }
+    memory.store(table, place, row, stream, listed)
+}
+
+// Does what a drop's action says to the table. `row` is what the action's slot holds.
+fn take(memory: Memory, table: &mut [u64], slot: Slot, row: Row, action: Action) -> Removed
+    ensures { λ r. ⌜ Takes memory (now (table .entry)) slot row action r (now (table .exit)) ⌝ }
+{
+    match action {
+        Action::Refuse(reply) => {
+            let answer = connection::bare(reply, false);
+            Removed { memory, answer }
+        }
+        Action::Answer(answer) => Removed { memory, answer },
+        Action::Store(place, stream, listed, answer) => {
+            let after = put(memory, table, slot, place, row, stream, listed);
+            Removed {
+                memory: after,
+                answer,
+            }
+        }
+        Action::Queue(_, _, _, answer) => Removed { memory, answer },
+        Action::New(_, _, answer) => Removed { memory, answer },
+    }
+}
+
+// Closes the stream found with the handle's id, and takes it from the table.
+fn remove(memory: Memory, table: &mut [u64], slot: Slot, found: Found) -> Removed
+    ensures { λ r. ⌜ Removes memory (now (table .entry)) slot found r (now (table .exit)) ⌝ }
+{
+    let Found::At(place) = found else {
+        let blank = Row::blank();
+        let action = calls::on_drop(slot, Known::Nowhere);
+        return take(memory, table, slot, blank, action);
+    };
+    let row = table::load(table, memory.slots, place);
+    let stream = row.stream;
+    let action = calls::on_drop(slot, Known::At(place, stream));
+    take(memory, table, slot, row, action)
+}
+
+// Drops a handle that is held. `row` is what its slot holds.
+fn release(c: Connection, table: &mut [u64], links: &mut [u32], slot: Slot, row: Row) -> Done
+    ensures { λ r. ⌜ Releases c (now (table .entry)) (now (links .entry)) slot row r (now (table .exit)) (now (links .exit)) ⌝ }
+{
+    let memory = c.memory;
+    let stream = row.stream;
+    let growth = calls::growth_returned(c.growth, stream);
+    let found = table::find(table, memory.slots, stream.id);
+    let removed = remove(memory, table, slot, found);
+    let left = removed.memory;
+    let answer = removed.answer;
+    // A store keeps what a slot says, not which blocks say it.
+    let mine = table::load(table, left.slots, slot);
+    let after = left.free(table, links, slot, mine);
+    released(c, growth, after, answer)
+}

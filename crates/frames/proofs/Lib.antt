@@ -1,0 +1,3 @@
+-- Laws that the proofs of the frames share.
+pub mod Settling
+pub mod Walk

@@ -1,0 +1,3 @@
+-- Laws that the proofs of new and open share.
+pub mod Starting
+pub mod Opening

@@ -1,0 +1,262 @@
+-- How an open comes to its promise: what is decided fits a valid state, and what is done is the rules'. Assumes nothing.
+use mathlib.Core.Path.{_≡_, refl, sym, ap, _∙_}
+use mathlib.Core.Bool.{Bool, true, false, cond}
+use mathlib.Core.List.{List, []}
+use Prim.Native.Nat.{ℕ, _+_, _%_, _≤_, _<_}
+use native.Mathlib.Decide.{ℕ-discrete}
+use native.Mathlib.Omega.{arith}
+use borrow.Author.Tests.{eqb-true, eq-eqb}
+use lib.Dec.{eqb, ltb, leb}
+use lib.ListN.{length, set}
+use lib.Seq.{getD-set-same, getD-set-other}
+use Rattle.frame.specs.declared.header.StreamId.{StreamId}
+use Rattle.flow_control.specs.Windows.{top}
+use Rattle.stream.specs.declared.Stream.{Stream}
+use Rattle.rules.specs.Lists.{Place, at, nowhere}
+use Rattle.rules.specs.State.{Entry, Conn, entry, vacant, isOwn, hasId, find}
+use Rattle.rules.specs.State as rules
+use Rattle.rules.specs.Settings.{lastTime}
+use Rattle.rules.specs.Ending.{refuse, end}
+use Rattle.rules.specs.Frames.{newEntry}
+use Rattle.rules.specs.Calls.{open-rules}
+use Rattle.rules.specs.Step.{step, timed, live, open-stream}
+use Rattle.rules.specs.declared.Mode.{Mode}
+use Rattle.rules.specs.declared.Mode.the-variants.{Client, Server}
+use Rattle.rules.specs.declared.Reply.{Reply}
+use Rattle.rules.specs.declared.Reply.the-variants as reply
+use Rattle.rules.specs.declared.Slot.{Slot}
+use Rattle.table.specs.Table.{lowestFree, unacknowledged, foundOf}
+use Rattle.table.proofs.Lists.{first-nowhere, false-of}
+use Rattle.handlers.specs.Locals.{openWith, openAction, performOpen}
+use Rattle.handlers.specs.Perform.{vacancyOf}
+use Rattle.handlers.specs.declared.Opening.{Opening}
+use Rattle.handlers.specs.declared.Opening.the-variants as opening
+use Rattle.handlers.specs.declared.NextId.the-variants as next
+use Rattle.handlers.proofs.Locals.{open-performs}
+use Rattle.memory.specs.Moves.{Makes}
+use Rattle.memory.specs.Slots.{slotsOf}
+use Rattle.memory.specs.declared.Memory.{Memory}
+use Rattle.memory.proofs.Laws.{never, slots-length, free-slots, free-at, listed-count, backlog}
+use Rattle.connection.specs.Abstract.{absOf, Valid, Fresh}
+use Rattle.connection.specs.Promises.{bareAnswer, refused, gateOf, Follows, Promised}
+use Rattle.rules.specs.Replies.{leavesAll}
+use Rattle.connection.specs.declared.Connection.{Connection}
+use Rattle.connection.specs.declared.Done.{Done}
+use Rattle.connection.specs.declared.Gate.the-variants as gate
+use Rattle.opening.specs.Open as specs
+use Rattle.opening.specs.Open.{Over, decided, opened, settled, Opens, Fits, Sound, Acts, Enters}
+
+-- ---- the next id
+
+-- parity is kept by two more
+mod-two : (n b : ℕ) → n % 2 ≡ b → (n + 2) % 2 ≡ b
+mod-two n b e = omega arith
+
+own-next : (mode : Mode) (n : ℕ) → isOwn mode (record { 0 = n }) ≡ true → isOwn mode (record { 0 = n + 2 }) ≡ true
+own-next Client n e = eq-eqb _ _ (mod-two n 1 (eqb-true (n % 2) 1 e))
+own-next Server n e = eq-eqb _ _ (mod-two n 0 (eqb-true (n % 2) 0 e))
+
+-- no stream in the table has the next id: the own ones there are below it
+next-new : (c : Conn) → Fresh c → find (c .slots) (record { 0 = c .nextId }) ≡ nowhere
+next-new c f = first-nowhere (hasId (record { 0 = c .nextId })) (c .slots) vacant (λ j h. go j (entry (c .slots) j .listed) refl)
+  where
+    other : (j : ℕ) → entry (c .slots) j .listed ≡ true → eqb (entry (c .slots) j .stream .id .0) (c .nextId) ≡ true → ⊥
+    other j h e =
+        let same : entry (c .slots) j .stream .id .0 ≡ c .nextId = eqb-true _ _ e in
+        let ids : entry (c .slots) j .stream .id ≡ record { 0 = c .nextId } = ap (λ (n : ℕ). record { 0 = n }) same in
+        let less = f .below j h (rw ids (f .parity)) in
+        omega arith
+
+    go : (j : ℕ) (b : Bool) → entry (c .slots) j .listed ≡ b → hasId (record { 0 = c .nextId }) (entry (c .slots) j) ≡ false
+    go j true e = rw e (false-of _ (other j e))
+    go j false e = rw e
+
+-- ---- what is done
+
+module _ (c : Connection) (t l p : List ℕ) where
+  refuse-follows : (r : Reply) → Valid c t l p → Follows c t l p (refuse (absOf c t l p) r) (refused c r) t l p
+  refuse-follows r v = record {
+    valid = v;
+    after = refl;
+    says = record { reply = refl; slot = refl; value = refl; sent = refl; wakes = refl };
+    read = refl;
+  }
+
+  -- an ended connection says the reply alone
+  pub over-follows : (r : Reply) (d : Done) (t′ : List ℕ) → Follows c t l p (end (absOf c t l p) r) d t′ l p
+      → Follows c t l p (end (absOf c t l p) r) (record { connection = d .connection; answer = bareAnswer r true; read = 0 }) t′ l p
+  over-follows r d t′ f = record {
+    valid = f .valid;
+    after = f .after;
+    says = record { reply = refl; slot = refl; value = refl; sent = refl; wakes = refl };
+    read = refl;
+  }
+
+  pub refusing : (r : Reply) → Acts c t l p (opening.Refuse r) (refused c r) t l p
+  unfolding performOpen
+  refusing r = record { steps = λ v f. refuse-follows r v; refuses = λ s e. (refl, refl, refl, refl) }
+
+  pub ending : (r : Reply) (d : Done) (t′ : List ℕ) → Over c t r d t′ → Acts c t l p (opening.End r) d t′ l p
+  unfolding performOpen
+  ending r d t′ o = record {
+    steps = λ v f. o .ends l p v;
+    refuses = λ s e. never (sym e ∙ rw (o .answer) s);
+  }
+
+  pub waiting : Acts c t l p opening.Wait (settled c (c .«next_id») true (c .memory) (bareAnswer reply.Wait false)) t l p
+  unfolding performOpen
+  waiting = record {
+    steps = λ v f. record {
+      valid = record { memory = v .memory; slots = v .slots; pool = v .pool; fresh = record { parity = v .fresh .parity; below = v .fresh .below } };
+      after = refl;
+      says = record { reply = refl; slot = refl; value = refl; sent = refl; wakes = refl };
+      read = refl;
+    };
+    refuses = λ s e. never (sym e);
+  }
+
+  module _ (i : Slot) (s : Stream) (after : ℕ) (m′ : Memory) (t′ l′ p′ : List ℕ) where
+    abbrev d : Done
+    d = settled c after (c .«open_wait») m′ (opened i (s .id .0))
+
+    abbrev es : List Entry
+    es = slotsOf (c .memory) t l p
+
+    abbrev e : Entry
+    e = newEntry s []
+
+    abbrev Kept : Entry → Type 0
+    Kept x = x .listed ≡ true → isOwn (c .config .mode) (x .stream .id) ≡ true → x .stream .id .0 < after
+
+    -- the own ids are below the next one, the new stream's among them
+    below : Valid c t l p → Opens c t l p (i .0) s after → (j : ℕ) → entry (set es (i .0) e) j .listed ≡ true
+        → isOwn (c .config .mode) (entry (set es (i .0) e) j .stream .id) ≡ true → entry (set es (i .0) e) j .stream .id .0 < after
+    below v f j = go (ℕ-discrete j (i .0))
+      where
+        number : s .id .0 ≡ c .«next_id»
+        number = ap (λ (x : StreamId). x .0) (f .id)
+
+        new : Kept e
+        new h o = omega (arith, number, f .next)
+
+        old : Kept (entry es j)
+        old h o = omega (arith, v .fresh .below j h o, f .next)
+
+        go : Dec (j ≡ i .0) → Kept (entry (set es (i .0) e) j)
+        go (yes q) = let x : entry (set es (i .0) e) j ≡ e = rw q (getD-set-same es (i .0) e vacant (omega (arith, f .below, slots-length (c .memory) t l p (v .memory)))) in rw x new
+        go (no q) = let x : entry (set es (i .0) e) j ≡ entry es j = getD-set-other es (i .0) j e vacant q in rw x old
+
+    pub making : Makes (c .memory) t l p (i .0) s [] m′ t′ l′ p′ → Acts c t l p (opening.New i s after) d t′ l′ p′
+    unfolding performOpen
+    making make = record { steps = λ v f. follows v f; refuses = λ o q. never (sym q) }
+      where
+        follows : (v : Valid c t l p) (f : Opens c t l p (i .0) s after) → Follows c t l p (performOpen (absOf c t l p) (opening.New i s after)) d t′ l′ p′
+        follows v f =
+            let w = make (v .memory) (f .below) (f .free) (rw (f .id) (next-new (absOf c t l p) (v .fresh))) (omega (arith, v .memory .within)) in
+            record {
+              valid = record {
+                memory = w .valid;
+                slots = w .same .0 ∙ v .slots;
+                pool = w .same .1 ∙ v .pool;
+                fresh = record {
+                  parity = rw (f .next) (own-next (c .config .mode) (c .«next_id») (v .fresh .parity));
+                  below = rw (w .slots) (below v f);
+                };
+              };
+              after = rw (w .slots);
+              says = record { reply = refl; slot = refl; value = refl; sent = refl; wakes = refl };
+              read = refl;
+            }
+
+-- ---- what is decided
+
+module _ (c : Connection) (t l p : List ℕ) (now : ℕ) where
+  abbrev a : Conn
+  a = absOf c t l p
+
+  vacancies : (q : Place) → specs.vacant (foundOf q) ≡ vacancyOf q
+  vacancies (at i) = refl
+  vacancies nowhere = refl
+
+  decided-rules : Valid c t l p
+      → decided c t now ≡ openAction (rules.listedCount (a .slots)) (c .config .«max_num_streams») (rules.unacknowledged (c .config .mode) (a .slots)) (c .«next_id») (vacancyOf (rules.lowestFree (a .slots))) now
+  decided-rules v =
+      let m = c .memory in
+      rw (sym (listed-count m t l p (v .memory)), backlog m t l p (v .memory) (c .config .mode), free-slots m t l p (v .memory), vacancies (rules.lowestFree (slotsOf m t l p)))
+
+  pub sound : Sound (decided c t now)
+  unfolding openAction
+  sound = go (leb (c .config .«max_num_streams») (c .memory .listed)) (leb 256 (unacknowledged t (c .memory .slots) (c .config .mode))) (ltb top (c .«next_id» + 2)) (specs.vacant (lowestFree t (c .memory .slots)))
+    where
+      go : (x y z : Bool) (q : Rattle.handlers.specs.declared.Vacancy.Vacancy)
+          → Sound (cond x (opening.End reply.TooManyStreams) (cond y opening.Wait (openWith (cond z next.NoMore (next.Id (record { 0 = c .«next_id» }) (c .«next_id» + 2))) q now)))
+      go true y z q = refl
+      go false true z q = tt
+      go false false true q = refl
+      go false false false Rattle.handlers.specs.declared.Vacancy.the-variants.Nowhere = tt
+      go false false false (Rattle.handlers.specs.declared.Vacancy.the-variants.At i) = tt
+
+  fits-rules : (v : Valid c t l p) (q : Place) → rules.lowestFree (a .slots) ≡ q → (x y z : Bool)
+      → Fits c t l p (cond x (opening.End reply.TooManyStreams) (cond y opening.Wait (openWith (cond z next.NoMore (next.Id (record { 0 = c .«next_id» }) (c .«next_id» + 2))) (vacancyOf q) now)))
+  fits-rules v q e true y z = tt
+  fits-rules v q e false true z = tt
+  fits-rules v q e false false true = tt
+  fits-rules v nowhere e false false false = tt
+  fits-rules v (at i) e false false false =
+      let f = free-at (c .memory) t l p (v .memory) i e in
+      record { below = f .0; free = f .1; id = refl; next = refl }
+
+  pub fitting : Valid c t l p → Fits c t l p (decided c t now)
+  unfolding openAction
+  fitting v = rw (decided-rules v) (fits-rules v (rules.lowestFree (a .slots)) refl (leb (c .config .«max_num_streams») (rules.listedCount (a .slots))) (leb 256 (rules.unacknowledged (c .config .mode) (a .slots))) (ltb top (c .«next_id» + 2)))
+
+  -- ---- the gate
+
+  gate-shut : (r : Reply) → gateOf (c .ended) now ≡ gate.Shut r → timed a now (live a (open-rules a now)) ≡ refuse a r
+  gate-shut r e = go (ltb lastTime now) (c .ended) e
+    where
+      go : (x y : Bool) → cond x (gate.Shut reply.Time) (cond y (gate.Shut reply.Closed) gate.Open) ≡ gate.Shut r
+          → cond x (refuse a reply.Time) (cond y (refuse a reply.Closed) (open-rules a now)) ≡ refuse a r
+      go true y h = let z : reply.Time ≡ r = cc in rw z
+      go false true h = let z : reply.Closed ≡ r = cc in rw z
+      go false false h = cc
+
+  gate-open : gateOf (c .ended) now ≡ gate.Open → timed a now (live a (open-rules a now)) ≡ open-rules a now
+  gate-open e = go (ltb lastTime now) (c .ended) e
+    where
+      go : (x y : Bool) → cond x (gate.Shut reply.Time) (cond y (gate.Shut reply.Closed) gate.Open) ≡ gate.Open
+          → cond x (refuse a reply.Time) (cond y (refuse a reply.Closed) (open-rules a now)) ≡ open-rules a now
+      go true y h = cc
+      go false true h = cc
+      go false false h = refl
+
+  pub shut : (r : Reply) → gateOf (c .ended) now ≡ gate.Shut r → Enters c t l p now (refused c r) t l p
+  unfolding step
+  shut r e = record {
+    steps = λ v. rw (gate-shut r e) (refuse-follows c t l p r v);
+    refuses = λ q. (refl, refl, refl, refl);
+  }
+
+  pub entered : gateOf (c .ended) now ≡ gate.Open → (d : Done) (t′ l′ p′ : List ℕ) → Acts c t l p (decided c t now) d t′ l′ p′ → Enters c t l p now d t′ l′ p′
+  unfolding step
+  entered e d t′ l′ p′ acts = record {
+    steps = λ v. rw (gate-open e, open-performs a now, sym (decided-rules v)) (acts .steps v (fitting v));
+    refuses = λ q. acts .refuses sound q;
+  }
+
+-- ---- sizes
+
+module _ (sized : Bool) (c : Connection) (t l p : List ℕ) (now : ℕ) where
+  pub wrong-size : sized ≡ false → Promised sized c t l p (open-stream now) (refused c reply.Size) t l p
+  wrong-size e = record {
+    steps = λ s v. never (sym s ∙ e);
+    wrong = λ w. refl;
+    refuses = λ w. (refl, refl, refl, refl);
+  }
+
+  pub right-size : sized ≡ true → (d : Done) (t′ l′ p′ : List ℕ) → Enters c t l p now d t′ l′ p′ → Promised sized c t l p (open-stream now) d t′ l′ p′
+  right-size e d t′ l′ p′ x = record {
+    steps = λ s v. x .steps v;
+    wrong = λ w. never (sym e ∙ w);
+    refuses = x .refuses;
+  }

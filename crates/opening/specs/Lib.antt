@@ -1,0 +1,3 @@
+-- What a new connection is, and what opening a stream promises.
+pub mod Start
+pub mod Open

@@ -1,0 +1,158 @@
+-- How a read comes to its promise: by a wrong size, a refusal, with nothing to read, or by its rule. Assumes nothing.
+use mathlib.Core.Path.{_≡_, refl, sym, ap, _∙_}
+use mathlib.Core.Bool.{Bool, true, false, cond}
+use mathlib.Core.List.{List}
+use Prim.Native.Nat.{ℕ, _≤_, _<_}
+use lib.Dec.{ltb}
+use lib.ListN.{length, drop}
+use Rattle.stream.specs.declared.Sent.the-variants.{Nothing}
+use Rattle.rules.specs.Settings.{lastTime}
+use Rattle.rules.specs.State.{Entry, Conn, entry}
+use Rattle.rules.specs.Ending.{Result, gives, refuse}
+use Rattle.rules.specs.Step.{step, read, timed, holding}
+use Rattle.rules.specs.declared.Reply.{Reply}
+use Rattle.rules.specs.declared.Reply.the-variants as reply
+use Rattle.table.specs.Table.{rowAt}
+use Rattle.handlers.specs.Perform.{outcomeOf}
+use Rattle.handlers.specs.Locals.{isShut, nothingRead}
+use Rattle.memory.specs.Slots.{slotsOf}
+use Rattle.memory.proofs.Laws.{never, entry-held, entry-beyond}
+use Rattle.connection.specs.Abstract.{absOf, Valid}
+use Rattle.connection.specs.Promises.{refused, gateOf, sentAfter, Promised}
+use Rattle.rules.specs.Replies.{leavesAll, mayGive}
+use Rattle.connection.specs.declared.Connection.{Connection}
+use Rattle.connection.specs.declared.Done.{Done}
+use Rattle.connection.specs.declared.Gate.the-variants as gate
+use Rattle.reading.specs.Promises.{ruleOf, Reads, ReadsCall, Outputs}
+use Rattle.reading.proofs.Rows.{shut-rule}
+
+module _ (c : Connection) (t l p out : List ℕ) where
+  -- a rule that is another from a valid state
+  pub same-reads : (rule rule′ : Result) (d : Done) (t′ l′ out′ : List ℕ) → (Valid c t l p → rule′ ≡ rule) → Reads rule c t l p out d t′ l′ out′ → Reads rule′ c t l p out d t′ l′ out′
+  same-reads rule rule′ d t′ l′ out′ same r = record {
+    steps = λ v. rw (same v) (r .steps v);
+    refuses = r .refuses;
+    past = r .past;
+    only = r .only;
+  }
+
+  pub refused-reads : (rule : Result) (r : Reply) → (Valid c t l p → rule ≡ refuse (absOf c t l p) r) → Reads rule c t l p out (refused c r) t l out
+  refused-reads rule r same = same-reads (refuse (absOf c t l p) r) rule (refused c r) t l out same (record {
+    steps = λ v. (
+      record { valid = v; after = refl; says = record { reply = refl; slot = refl; value = refl; sent = refl; wakes = refl }; read = refl },
+      refl,
+    );
+    refuses = λ e. (refl, refl, refl);
+    past = refl;
+    only = λ e. (refl, refl);
+  })
+
+  -- the answer of a read that gives nothing since the connection ended
+  pub shut-reads : (i time : ℕ) → isShut (c .ended) (c .config .«read_after_close») ≡ true
+      → Reads (ruleOf (absOf c t l p) i (length out) time) c t l p out (record { connection = c; answer = nothingRead (record { 0 = i }); read = 0 }) t l out
+  shut-reads i time shut = same-reads (gives (outcomeOf (nothingRead (record { 0 = i }))) (absOf c t l p)) (ruleOf (absOf c t l p) i (length out) time)
+      (record { connection = c; answer = nothingRead (record { 0 = i }); read = 0 }) t l out (λ v. shut-rule c t l p i (length out) time shut) (record {
+        steps = λ v. (
+          record { valid = v; after = refl; says = record { reply = refl; slot = refl; value = refl; sent = refl; wakes = refl }; read = refl },
+          refl,
+        );
+        refuses = λ e. never (sym e);
+        past = refl;
+        only = λ e. (refl, refl);
+      })
+
+  -- ---- the handle
+
+  module _ (i time : ℕ) where
+    abbrev next : Result
+    next = ruleOf (absOf c t l p) i (length out) time
+
+    free-rule : entry (slotsOf (c .memory) t l p) i .held ≡ false → holding (absOf c t l p) i next ≡ refuse (absOf c t l p) reply.NotHeld
+    free-rule e = rw e
+
+    pub beyond-reads : c .memory .slots ≤ i → Reads (holding (absOf c t l p) i next) c t l p out (refused c reply.NotHeld) t l out
+    beyond-reads h =
+        refused-reads (holding (absOf c t l p) i next) reply.NotHeld
+        (λ v. free-rule (ap (λ (e : Entry). e .held) (entry-beyond (c .memory) t l p (v .memory) i h)))
+
+    pub free-reads : i < c .memory .slots → rowAt t (c .memory .slots) i .held ≡ false
+        → Reads (holding (absOf c t l p) i next) c t l p out (refused c reply.NotHeld) t l out
+    free-reads h e =
+        refused-reads (holding (absOf c t l p) i next) reply.NotHeld
+        (λ v. free-rule (entry-held (c .memory) t l p (v .memory) i h ∙ e))
+
+    pub held-reads : i < c .memory .slots → rowAt t (c .memory .slots) i .held ≡ true → (d : Done) (t′ l′ out′ : List ℕ)
+        → Reads next c t l p out d t′ l′ out′ → Reads (holding (absOf c t l p) i next) c t l p out d t′ l′ out′
+    held-reads h e d t′ l′ out′ = same-reads next (holding (absOf c t l p) i next) d t′ l′ out′ (λ v. held-rule (entry-held (c .memory) t l p (v .memory) i h ∙ e))
+      where
+        held-rule : entry (slotsOf (c .memory) t l p) i .held ≡ true → holding (absOf c t l p) i next ≡ next
+        held-rule q = rw q
+
+-- ---- the time
+
+module _ (x : Conn) (time : ℕ) (next : Result) where
+  time-shut : (r : Reply) → gateOf false time ≡ gate.Shut r → timed x time next ≡ refuse x r
+  time-shut r e = go (ltb lastTime time) e
+    where
+      go : (a : Bool) → cond a (gate.Shut reply.Time) gate.Open ≡ gate.Shut r → cond a (refuse x reply.Time) next ≡ refuse x r
+      go true h = let z : reply.Time ≡ r = cc in rw z
+      go false h = cc
+
+  time-open : gateOf false time ≡ gate.Open → timed x time next ≡ next
+  time-open e = go (ltb lastTime time) e
+    where
+      go : (a : Bool) → cond a (gate.Shut reply.Time) gate.Open ≡ gate.Open → cond a (refuse x reply.Time) next ≡ next
+      go true h = cc
+      go false h = refl
+
+-- ---- the call
+
+module _ (c : Connection) (t l p : List ℕ) (i : ℕ) (out : List ℕ) (time : ℕ) where
+  pub wrong-call : ReadsCall false c t l p i out time (refused c reply.Size) t l out
+  wrong-call = record { right = λ e. never (sym e); wrong = λ e. record { size = refl; table = refl; links = refl; kept = refl } }
+
+  pub shut-call : (r : Reply) → gateOf false time ≡ gate.Shut r → ReadsCall true c t l p i out time (refused c r) t l out
+  unfolding step
+  shut-call r e = record {
+    right = λ q. refused-reads c t l p out (step (absOf c t l p) (read time i (length out))) r
+        (λ v. time-shut (absOf c t l p) time (holding (absOf c t l p) i (ruleOf (absOf c t l p) i (length out) time)) r e);
+    wrong = λ q. never q;
+  }
+
+  pub open-call : gateOf false time ≡ gate.Open → (d : Done) (t′ l′ out′ : List ℕ)
+      → Reads (holding (absOf c t l p) i (ruleOf (absOf c t l p) i (length out) time)) c t l p out d t′ l′ out′ → ReadsCall true c t l p i out time d t′ l′ out′
+  unfolding step
+  open-call e d t′ l′ out′ r =
+      let rule = holding (absOf c t l p) i (ruleOf (absOf c t l p) i (length out) time) in
+      record {
+        right = λ q. same-reads c t l p out rule (step (absOf c t l p) (read time i (length out))) d t′ l′ out′ (λ v. time-open (absOf c t l p) time rule e) r;
+        wrong = λ q. never q;
+      }
+
+  module _ (sized : Bool) (d : Done) (t′ l′ out′ : List ℕ) (r : ReadsCall sized c t l p i out time d t′ l′ out′) where
+    pub promised : Promised sized c t l p (read time i (length out)) d t′ l′ p
+    promised = record {
+      steps = λ e v. r .right e .steps v .0;
+      wrong = λ e. r .wrong e .size;
+      refuses = go sized refl;
+    }
+      where
+        go : (b : Bool) → sized ≡ b → leavesAll (d .answer .reply) ≡ true → (d .connection ≡ c) × (t′ ≡ t) × (l′ ≡ l) × (p ≡ p)
+        go true e q = let w = r .right e .refuses q in (w .0, w .1, w .2, refl)
+        go false e q = (ap (λ (x : Done). x .connection) (r .wrong e .size), r .wrong e .table, r .wrong e .links, refl)
+
+    pub outputs : (sent sent′ : List ℕ) → sent′ ≡ sentAfter (d .answer .sent) sent → Outputs sized c t l p time i out sent d out′ sent′
+    outputs sent sent′ h = record {
+      bytes = λ e v. r .right e .steps v .1;
+      past = past sized refl;
+      header = h;
+      only = only sized refl;
+    }
+      where
+        past : (b : Bool) → sized ≡ b → drop (d .read) out′ ≡ drop (d .read) out
+        past true e = r .right e .past
+        past false e = ap (λ (xs : List ℕ). drop (d .read) xs) (r .wrong e .kept)
+
+        only : (b : Bool) → sized ≡ b → mayGive (d .answer .reply) ≡ false → (d .answer .sent ≡ Nothing) × (d .read ≡ 0)
+        only true e q = r .right e .only q
+        only false e q = (ap (λ (x : Done). x .answer .sent) (r .wrong e .size), ap (λ (x : Done). x .read) (r .wrong e .size))

@@ -1,0 +1,4 @@
+-- Laws of reading, without code.
+pub mod Draws
+pub mod Rows
+pub mod Calls

@@ -1,0 +1,2 @@
+-- What a read promises, and what its parts do.
+pub mod Promises

@@ -1,0 +1,96 @@
+-- What a read promises, on every input and from a valid state.
+use mathlib.Core.Path.{_≡_}
+use mathlib.Core.Bool.{Bool, true, false, cond}
+use mathlib.Core.List.{List}
+use Prim.Native.Nat.{ℕ, _≤_, _<_}
+use lib.Dec.{eqb}
+use lib.ListN.{length, drop}
+use Rattle.stream.specs.Streams.{sendWindowUpdate}
+use Rattle.stream.specs.declared.Sent.the-variants.{Nothing}
+use Rattle.rules.specs.State.{Conn, entry}
+use Rattle.rules.specs.Ending.{Result}
+use Rattle.rules.specs.Calls.{readRules}
+use Rattle.rules.specs.Step.{step, read, holding}
+use Rattle.rules.specs.declared.Reply.{Reply}
+use Rattle.rules.specs.declared.Reply.the-variants as reply
+use Rattle.rules.specs.declared.Slot.{Slot}
+use Rattle.table.specs.Table.{rowAt}
+use Rattle.table.specs.declared.row.Row.{Row}
+use Rattle.handlers.specs.Locals.{onRead, performRead}
+use Rattle.handlers.specs.declared.ReadStep.{ReadStep}
+use Rattle.memory.specs.Counts.{fits}
+use Rattle.memory.specs.Moves as memory
+use Rattle.memory.specs.Slots.{slotsOf}
+use Rattle.connection.specs.Abstract.{absOf, Valid}
+use Rattle.connection.specs.Promises.{refused, sentAfter, outAfter, Follows}
+use Rattle.rules.specs.Replies.{leavesAll, mayGive}
+use Rattle.connection.specs.declared.Connection.{Connection}
+use Rattle.connection.specs.declared.Done.{Done}
+
+-- 01: "a lent table, pool or header of the wrong size"
+abbrev pub sized : Connection → ℕ → ℕ → ℕ → ℕ → Bool
+sized c t l p sent = cond (fits (c .memory) t l p) (eqb sent 12) false
+
+-- 01: "Lent output changes only in the bytes read and in the 12 of a header given; replies but 0, 1 and 2 give neither."
+pub record Outputs (sized : Bool) (c : Connection) (t l p : List ℕ) (time i : ℕ) (out sent : List ℕ) (d : Done) (out′ sent′ : List ℕ) : Type 0 where
+  pub bytes : sized ≡ true → Valid c t l p → out′ ≡ outAfter (step (absOf c t l p) (read time i (length out)) .outcome .bytes) out
+  pub past : drop (d .read) out′ ≡ drop (d .read) out
+  pub header : sent′ ≡ sentAfter (d .answer .sent) sent
+  pub only : mayGive (d .answer .reply) ≡ false → (d .answer .sent ≡ Nothing) × (d .read ≡ 0)
+
+-- ---- the parts
+
+-- from a valid state the rule's result and bytes; a refusal leaves all as it was; and nothing past the bytes read changes
+pub record Reads (rule : Result) (c : Connection) (t l p out : List ℕ) (d : Done) (t′ l′ out′ : List ℕ) : Type 0 where
+  pub steps : Valid c t l p → Follows c t l p rule d t′ l′ p × (out′ ≡ outAfter (rule .outcome .bytes) out)
+  pub refuses : leavesAll (d .answer .reply) ≡ true → (d .connection ≡ c) × (t′ ≡ t) × (l′ ≡ l)
+  pub past : drop (d .read) out′ ≡ drop (d .read) out
+  pub only : mayGive (d .answer .reply) ≡ false → (d .answer .sent ≡ Nothing) × (d .read ≡ 0)
+
+-- "first the window update .., then the oldest min(asked, unread) bytes": the step, read off the slot's row
+abbrev pub stepOf : Connection → Slot → Row → ℕ → ℕ → ReadStep
+stepOf c i row asked time =
+    onRead i
+    (sendWindowUpdate (row .stream) (row .queue .unread) time (c .rtt .«round_trip») (c .config .limit) (c .config .«max_num_streams») (c .growth))
+    (row .queue .unread) asked
+
+-- the step may be done at slot i, whose row is `row`
+pub record Draws (c : Connection) (t l p : List ℕ) (i : ℕ) (row : Row) (s : ReadStep) : Type 0 where
+  pub loaded : row ≡ rowAt t (c .memory .slots) i
+  pub below : i < c .memory .slots
+  pub follows : memory.Follows (entry (slotsOf (c .memory) t l p) i) (s .stream) (entry (slotsOf (c .memory) t l p) i .listed)
+  pub unread : s .count ≤ length (entry (slotsOf (c .memory) t l p) i .bytes)
+
+abbrev pub Takes : Connection → List ℕ → List ℕ → List ℕ → ℕ → Row → ReadStep → List ℕ → Done → List ℕ → List ℕ → List ℕ → Type 0
+Takes c t l p i row s out d t′ l′ out′ =
+    mayGive (s .answer .reply) ≡ true → (Valid c t l p → Draws c t l p i row s)
+    → Reads (performRead (absOf c t l p) (record { 0 = i }) (entry (slotsOf (c .memory) t l p) i) s) c t l p out d t′ l′ out′
+
+-- the rule of a read from slot i
+abbrev pub ruleOf : Conn → ℕ → ℕ → ℕ → Result
+ruleOf x i asked time = readRules x i (entry (x .slots) i) asked time
+
+-- slot i is held, and its row is `row`
+pub record Holds (c : Connection) (t : List ℕ) (i : ℕ) (row : Row) : Type 0 where
+  pub loaded : row ≡ rowAt t (c .memory .slots) i
+  pub below : i < c .memory .slots
+  pub held : row .held ≡ true
+
+abbrev pub ReadsRow : Connection → List ℕ → List ℕ → List ℕ → ℕ → Row → List ℕ → ℕ → Done → List ℕ → List ℕ → List ℕ → Type 0
+ReadsRow c t l p i row out time d t′ l′ out′ =
+    Holds c t i row → Reads (ruleOf (absOf c t l p) i (length out) time) c t l p out d t′ l′ out′
+
+abbrev pub ReadsSlot : Connection → List ℕ → List ℕ → List ℕ → ℕ → List ℕ → ℕ → Done → List ℕ → List ℕ → List ℕ → Type 0
+ReadsSlot c t l p i out time d t′ l′ out′ =
+    Reads (holding (absOf c t l p) i (ruleOf (absOf c t l p) i (length out) time)) c t l p out d t′ l′ out′
+
+-- a wrong size is 14 before all else, and leaves all as it was
+pub record Unsized (c : Connection) (t l out : List ℕ) (d : Done) (t′ l′ out′ : List ℕ) : Type 0 where
+  pub size : d ≡ refused c reply.Size
+  pub table : t′ ≡ t
+  pub links : l′ ≡ l
+  pub kept : out′ ≡ out
+
+pub record ReadsCall (sized : Bool) (c : Connection) (t l p : List ℕ) (i : ℕ) (out : List ℕ) (time : ℕ) (d : Done) (t′ l′ out′ : List ℕ) : Type 0 where
+  pub right : sized ≡ true → Reads (step (absOf c t l p) (read time i (length out))) c t l p out d t′ l′ out′
+  pub wrong : sized ≡ false → Unsized c t l out d t′ l′ out′
