@@ -7,9 +7,8 @@ use lib.Dec.{ltb, leb}
 use native.Mathlib.Omega.{arith}
 use borrow.Author.Tests.{leb-true, leb-false}
 use Rattle.stream.specs.Streams as stream
-use Rattle.stream.specs.declared.State.{State}
-use Rattle.stream.specs.declared.State.the-variants.{Open, SendClosed, RecvClosed, Closed}
 use Rattle.stream.specs.declared.Stream.{Stream}
+use Rattle.stream.proofs.Laws.{close-same}
 use Rattle.chunks.specs.Store.{content}
 use Rattle.rules.specs.Settings.{lastTime}
 use Rattle.rules.specs.State.{Entry, Conn, entry, withSlot}
@@ -37,19 +36,10 @@ use Rattle.calls.specs.declared.Handle.the-variants.{Held, Refused}
 use Rattle.calls.specs.Parts.{handleOf, Keeps}
 
 -- a store, with the bytes as they were
-store-performs : (a : Conn) (i : ℕ) (s : Stream) (listed : Bool) (o : Answer)
+pub store-performs : (a : Conn) (i : ℕ) (s : Stream) (listed : Bool) (o : Answer)
     → perform a a [] (action.Store (record { 0 = i }) s listed o) ≡ gives (outcomeOf o) (withSlot a i (memory.held s listed (entry (a .slots) i .bytes)))
 unfolding perform
 store-performs a i s listed o = rw append-nil
-
-close-id : (s : Stream) → stream.close s .stream .id ≡ s .id
-close-id s = go (s .state)
-  where
-    go : (x : State) → stream.closeIn x s .stream .id ≡ s .id
-    go (Open b) = refl
-    go SendClosed = refl
-    go RecvClosed = refl
-    go Closed = refl
 
 module _ (c : Connection) (t l p : List ℕ) (v : Valid c t l p) (i now : ℕ) where
   held-is : (b : Bool) → leb (c .memory .slots) i ≡ b → entry (slotsOf (c .memory) t l p) i .held ≡ cond b false (rowAt t (c .memory .slots) i .held)
@@ -93,9 +83,21 @@ module _ (c : Connection) (t l p : List ℕ) (v : Valid c t l p) (i now : ℕ) w
   close-shut r e = handle-refused (closeRules (absOf c t l p) i (entry es i)) r e
 
   module _ (row : Row) (e : handleOf (c .memory .slots) t i now ≡ Held row) where
-    at-row : i < c .memory .slots → row ≡ rowAt t (c .memory .slots) i → rowAt t (c .memory .slots) i .held ≡ true
+    pub at-row : i < c .memory .slots → row ≡ rowAt t (c .memory .slots) i → rowAt t (c .memory .slots) i .held ≡ true
         → entry es i ≡ memory.held (row .stream) (row .listed) (content l p (rowAt t (c .memory .slots) i .queue))
     at-row b q h = entry-of-held (c .memory) t l p (v .memory) i b h ∙ ap (λ (r : Row). memory.held (r .stream) (r .listed) (content l p (rowAt t (c .memory .slots) i .queue))) (sym q)
+
+    -- a stream of the same id is put back
+    pub row-follows : (s : Stream) (o : Answer) → s .id ≡ row .stream .id → (d : Done) (t′ : List ℕ) → Keeps c t i row s (row .listed) o d t′
+        → Follows c t l p (gives (outcomeOf o) (withSlot (absOf c t l p) i (memory.held s (row .listed) (entry es i .bytes)))) d t′ l p
+    row-follows s o same d t′ k =
+        let h = handle-held (refuse (absOf c t l p) reply.NotHeld) row e in
+        let q = at-row (h .0) (h .1) (h .2) in
+        k .keeps l p (h .1) v (h .0) (record {
+          held = ap (λ (x : Entry). x .held) q;
+          id = same ∙ sym (ap (λ (x : Entry). x .stream .id) q);
+          listed = λ b. ap (λ (x : Entry). x .listed) q ∙ b;
+        })
 
     close-rules : entry es i ≡ memory.held (row .stream) (row .listed) (content l p (rowAt t (c .memory .slots) i .queue))
         → closeRules (absOf c t l p) i (entry es i)
@@ -113,8 +115,4 @@ module _ (c : Connection) (t l p : List ℕ) (v : Valid c t l p) (i now : ℕ) w
     close-follows d t′ k =
         let h = handle-held (closeRules (absOf c t l p) i (entry es i)) row e in
         let q = at-row (h .0) (h .1) (h .2) in
-        rw (h .3 ∙ close-rules q) (k .keeps l p (h .1) v (h .0) (record {
-          held = ap (λ (x : Entry). x .held) q;
-          id = close-id (row .stream) ∙ sym (ap (λ (x : Entry). x .stream .id) q);
-          listed = λ b. ap (λ (x : Entry). x .listed) q ∙ b;
-        }))
+        rw (h .3 ∙ close-rules q) (row-follows (stream.close (row .stream) .stream) _ (close-same (row .stream) .0) d t′ k)

@@ -2,3 +2,4 @@
 pub mod Promises
 pub mod Locals
 pub mod Handles
+pub mod Writes

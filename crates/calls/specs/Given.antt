@@ -6,9 +6,12 @@ use Prim.Native.Nat.{ℕ}
 use lib.Dec.{eqb, ltb}
 use lib.ListN.{length}
 use Rattle.rules.specs.Replies.{mayGive}
+use Rattle.rules.specs.Step.{step, write}
 use Rattle.stream.specs.declared.Sent.the-variants.{Nothing}
 use Rattle.rules.specs.declared.Reply.{Reply}
 use Rattle.table.specs.Table.{size}
+use Rattle.handlers.specs.Locals.{bodyOf}
+use Rattle.connection.specs.Abstract.{absOf, Valid}
 use Rattle.connection.specs.Promises.{sentAfter}
 use Rattle.connection.specs.declared.Connection.{Connection}
 use Rattle.connection.specs.declared.Done.{Done}
@@ -25,3 +28,10 @@ sentSized c n s = cond (tableSized c n) (eqb s 12) false
 pub record Gives (d : Done) (s s′ : List ℕ) : Type 0 where
   pub header : s′ ≡ sentAfter (d .answer .sent) s
   pub only : mayGive (d .answer .reply) ≡ false → (d .answer .sent ≡ Nothing) × (d .read ≡ 0)
+
+-- 01: "a Data frame carries the first n bytes": from a valid state the rule's body is the first bytes of `given`, as many as the
+-- header given counts
+abbrev pub Carries : Bool → Connection → List ℕ → ℕ → ℕ → List ℕ → Done → Type 0
+Carries sized c t now i given d =
+    (l p : List ℕ) → sized ≡ true → Valid c t l p
+    → step (absOf c t l p) (write now i given) .outcome .body ≡ bodyOf (d .answer .sent) given

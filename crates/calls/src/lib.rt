@@ -3,10 +3,10 @@ ghost use mathlib.Core.Path.{_≡_};
 ghost use mathlib.Core.List.{List};
 ghost use Prim.Native.Nat.{ℕ};
 ghost use lib.ListN.{length};
-ghost use Rattle.rules.specs.Step.{gone, tick, close};
+ghost use Rattle.rules.specs.Step.{gone, tick, write, close};
 ghost use Rattle.handlers.specs.Locals.{onTick};
 ghost use Rattle.connection.specs.Promises.{Promised, sentAfter};
-ghost use Rattle.calls.specs.Given.{tableSized, sentSized, Gives};
+ghost use Rattle.calls.specs.Given.{tableSized, sentSized, Gives, Carries};
 ghost use Rattle.calls.specs.Parts.{Over, pinged, handleOf, Keeps, Acts};
 use connection::Connection;
 use connection::Done;
@@ -149,6 +149,44 @@ fn ping(c: Connection, sent: &mut [u8], time: u64) -> Done
         },
         answer,
         read: 0,
+    }
+}
+
+// Writes to the handle's stream. The body of the header given is the first bytes of `given` that its length counts.
+pub fn write(
+    c: Connection,
+    table: &mut [u64],
+    sent: &mut [u8],
+    slot: Slot,
+    given: &[u8],
+    time: u64,
+) -> Done
+    ensures { λ r. ⌜ ((l p : List ℕ) → Promised (sentSized c (length (now (table .entry))) (length (now (sent .entry)))) c (now (table .entry)) l p (write time (slot .0) (now (given .entry))) r (now (table .exit)) l p) ⌝ }
+    ensures { λ r. ⌜ Gives r (now (sent .entry)) (now (sent .exit)) ⌝ }
+    ensures { λ r. ⌜ Carries (sentSized c (length (now (table .entry))) (length (now (sent .entry)))) c (now (table .entry)) time (slot .0) (now (given .entry)) r ⌝ }
+{
+    let sized = sent_sized(c, table.len(), sent.len());
+    if !sized {
+        return connection::refuse(c, Reply::Size);
+    }
+    let memory = c.memory;
+    let found = held_row(memory.slots, &table[..], slot, time);
+    match found {
+        Handle::Refused(reply) => connection::refuse(c, reply),
+        Handle::Held(row) => {
+            let config = c.config;
+            let stream = row.stream;
+            let count = given.len();
+            let action = handlers::calls::on_write(
+                c.ended,
+                slot,
+                stream,
+                row.listed,
+                count,
+                config.split,
+            );
+            act(c, table, sent, row, action)
+        }
     }
 }
 

@@ -1,2 +1,3 @@
 -- Laws that the proofs of the drop share.
 pub mod Dropping
+pub mod Promises

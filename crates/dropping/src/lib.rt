@@ -1,7 +1,12 @@
 // The drop of a handle: the rules' step of document 01.
 ghost use mathlib.Core.Path.{_≡_};
-ghost use Rattle.dropping.specs.Given.{sized};
-ghost use Rattle.dropping.specs.Parts.{released, Puts, Takes, Removes, Releases};
+ghost use mathlib.Core.List.{List};
+ghost use Prim.Native.Nat.{ℕ};
+ghost use lib.ListN.{length};
+ghost use Rattle.rules.specs.Step.{drop};
+ghost use Rattle.connection.specs.Promises.{Promised};
+ghost use Rattle.dropping.specs.Given.{sized, Gives};
+ghost use Rattle.dropping.specs.Parts.{released, Puts, Takes, Removes, Releases, Drops};
 use connection::Connection;
 use connection::Done;
 use handlers::Action;
@@ -9,6 +14,7 @@ use handlers::Answer;
 use handlers::Known;
 use handlers::calls;
 use memory::Memory;
+use rules::Reply;
 use rules::Slot;
 use stream::Stream;
 use table::Found;
@@ -19,6 +25,8 @@ pub struct Removed {
     pub memory: Memory,
     pub answer: Answer,
 }
+
+const LAST_TIME: u64 = 4611686018427387903;
 
 // Whether lent slices of these lengths have their sizes.
 fn sized(c: Connection, table_len: usize, links_len: usize, sent_len: usize) -> bool
@@ -128,4 +136,47 @@ fn release(c: Connection, table: &mut [u64], links: &mut [u32], slot: Slot, row:
     let mine = table::load(table, left.slots, slot);
     let after = left.free(table, links, slot, mine);
     released(c, growth, after, answer)
+}
+
+// Drops a handle, if it is held.
+fn drop_held(c: Connection, table: &mut [u64], links: &mut [u32], slot: Slot) -> Done
+    ensures { λ r. ⌜ Drops c (now (table .entry)) (now (links .entry)) slot r (now (table .exit)) (now (links .exit)) ⌝ }
+{
+    let memory = c.memory;
+    let k = memory.slots;
+    let i = slot.0;
+    if k <= i {
+        return connection::refuse(c, Reply::NotHeld);
+    }
+    let row = table::load(table, k, slot);
+    if row.held {
+        return release(c, table, links, slot, row);
+    }
+    connection::refuse(c, Reply::NotHeld)
+}
+
+// Drops a handle: its slot is free, its growth is given back, and no stream of its id stays in the table.
+pub fn drop_handle(
+    c: Connection,
+    table: &mut [u64],
+    links: &mut [u32],
+    sent: &mut [u8],
+    slot: Slot,
+    time: u64,
+) -> Done
+    ensures { λ r. ⌜ ((p : List ℕ) → Promised (sized c (length (now (table .entry))) (length (now (links .entry))) (length (now (sent .entry)))) c (now (table .entry)) (now (links .entry)) p (drop time (slot .0)) r (now (table .exit)) (now (links .exit)) p) ⌝ }
+    ensures { λ r. ⌜ Gives r (now (sent .entry)) (now (sent .exit)) ⌝ }
+{
+    let fits = sized(c, table.len(), links.len(), sent.len());
+    if !fits {
+        return connection::refuse(c, Reply::Size);
+    }
+    if LAST_TIME < time {
+        return connection::refuse(c, Reply::Time);
+    }
+    let done = drop_held(c, table, links, slot);
+    let answer = done.answer;
+    let header = answer.sent;
+    connection::put(sent, header);
+    done
 }

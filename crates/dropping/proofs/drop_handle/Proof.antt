@@ -1,0 +1,72 @@
+-- `dropping::drop_handle` meets its contract: sizes first, then the time, then the handle. Assumes nothing.
+use mathlib.Core.Path.{refl, sym, _∙_}
+use borrow.Author.Needs.{needs}
+use borrow.Author.Tests.{not-true, not-false}
+use Rattle.dropping.proofs.Promises.{wrong-size, late, in-time}
+use Rattle.dropping.proofs.drop_handle.Statement.{statement}
+use Rattle.dropping.proofs.drop_handle.Tie as tie
+
+sized-requires : tie.Need-sized-requires
+sized-requires c κs = search needs
+
+refuse-requires : tie.Need-refuse-requires
+refuse-requires c κs = search needs
+
+returns : tie.Need-returns
+returns c =
+    let a = c .before .before .before .before .before .before .args in
+    rw (c .refuse .ensures) (
+      λ p. wrong-size _ (a .c) (a .table .now) (a .links .now) (a .slot) (a .time) p (sym (c .before .before .sized .ensures) ∙ not-true _ (c .before .if1 .taken)),
+      record { header = refl; only = λ w. (refl, refl) },
+    )
+
+refuse-requires-2 : tie.Need-refuse-requires-2
+refuse-requires-2 c κs = search needs
+
+returns-2 : tie.Need-returns-2
+returns-2 c =
+    let a = c .before .before .before .before .before .before .before .args in
+    rw (c .refuse2 .ensures) (
+      λ p. late _ (a .c) (a .table .now) (a .links .now) (a .slot) (a .time) p (sym (c .before .before .before .sized .ensures) ∙ not-false _ (c .before .before .if1 .left)) (c .before .if2 .taken),
+      record { header = refl; only = λ w. (refl, refl) },
+    )
+
+drop-held-requires : tie.Need-drop-held-requires
+drop-held-requires c κs = search needs
+
+put-requires : tie.Need-put-requires
+put-requires c κs = search needs
+
+same-length : tie.Need-same-length
+same-length c = search needs
+
+same-length-2 : tie.Need-same-length-2
+same-length-2 c = search needs
+
+same-length-3 : tie.Need-same-length-3
+same-length-3 c = search needs
+
+returns-3 : tie.Need-returns-3
+returns-3 c =
+    let a = c .before .before .before .before .before .before .before .before .before .before .before .before .before .before .before .before .before .before .args in
+    let k = c .before .before .before .before .before .before .before .before .before .drop-held in
+    let right = sym (c .before .before .before .before .before .before .before .before .before .before .before .before .before .before .sized .ensures) ∙ not-false _ (c .before .before .before .before .before .before .before .before .before .before .before .before .before .if1 .left) in (
+      λ p. in-time _ (a .c) (a .table .now) (a .links .now) (a .slot) (a .time) p right (c .before .before .before .before .before .before .before .before .before .before .before .before .if2 .left) (k .result) (k .last .1 .0) (k .last .1 .1 .0) (k .ensures),
+      record { header = c .before .before .put .ensures; only = k .ensures .only },
+    )
+
+pub drop-handle-spec : {M : Type 1} → statement M
+drop-handle-spec =
+    tie.close
+    (tie.spec
+    sized-requires
+    refuse-requires
+    returns
+    refuse-requires-2
+    returns-2
+    drop-held-requires
+    put-requires
+    same-length
+    same-length-2
+    same-length-3
+    returns-3)
