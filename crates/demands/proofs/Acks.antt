@@ -13,7 +13,7 @@ use Rattle.frame.specs.declared.header.StreamId.{StreamId}
 use Rattle.stream.specs.Streams.{acknowledged}
 use Rattle.rules.specs.Lists.{Place, at, nowhere}
 use Rattle.rules.specs.State.{Entry, Conn, vacant, entry, one, hasId, listedCount, unreadTotal, room, withStream, withSlot, withOpenWait}
-use Rattle.rules.specs.Frames.{Acked, ackStep, acknowledgeAt}
+use Rattle.rules.specs.Frames.{Acked, isKnown, ackStep, acknowledgeAt}
 use Rattle.demands.specs.Demands.{heldCount}
 use Rattle.demands.proofs.Lists.{split, both, true-not-false, at-set, Found, sum-set}
 use Rattle.demands.proofs.Invariant.{Inv, Stays, held-good, stays}
@@ -46,6 +46,7 @@ pub record Acks (a : Acked) (id : StreamId) (place : Place) : Type 0 where
   pub flows : (j : ℕ) → entry (a .conn .slots) j .stream .flow ≡ entry (a .before .slots) j .stream .flow
   pub unread : unreadTotal (a .conn .slots) ≡ unreadTotal (a .before .slots)
   pub beside : (j : ℕ) → (place ≡ at j → ⊥) → entry (a .conn .slots) j ≡ entry (a .before .slots) j
+  pub unknown : place ≡ nowhere → a .conn .slots ≡ a .before .slots
   pub located : Located (a .conn .slots) id place
 
 module _ (c : Conn) (v : Inv c) (live : c .ended ≡ false) (id : StreamId) where
@@ -63,6 +64,7 @@ module _ (c : Conn) (v : Inv c) (live : c .ended ≡ false) (id : StreamId) wher
     flows = λ j. refl;
     unread = refl;
     beside = λ j n. refl;
+    unknown = λ e. refl;
     located = l;
   }
 
@@ -97,6 +99,7 @@ module _ (c : Conn) (v : Inv c) (live : c .ended ≡ false) (id : StreamId) wher
     flows = at-set (λ j e. e .stream .flow ≡ entry (c .slots) j .stream .flow) (c .slots) i (known i) vacant (l .0) refl (λ j n. refl);
     unread = omega (arith, sum-set (λ (e : Entry). length (e .bytes)) (c .slots) i (known i) vacant (l .0));
     beside = λ j n. getD-set-other (c .slots) i j (known i) vacant (λ e. n (ap at (sym e)));
+    unknown = λ e. true-not-false refl (ap isKnown e);
     located = (rw (length-set (c .slots) i (known i)) (l .0), rw (getD-set-same (c .slots) i (known i) vacant (l .0)) (l .1));
   }
 

@@ -26,7 +26,7 @@ use Rattle.rules.specs.Calls.{openAt, open-rules, writeWith, writeRules}
 use Rattle.rules.specs.Step.{onDecoded, step}
 use Rattle.demands.specs.Demands.{heldCount, opens}
 use Rattle.demands.specs.Theorems.{Gave}
-use Rattle.demands.specs.Progress.{DataIsTaken, SynIsOpened, OpenIsGiven, WriteIsSent}
+use Rattle.demands.specs.Progress.{InLowest, DataIsTaken, SynIsOpened, OpenIsGiven, WriteIsSent}
 use Rattle.demands.proofs.Lists.{split, both, true-not-false, Found, found, sum-full}
 use Rattle.demands.proofs.Invariant.{Inv}
 use Rattle.demands.proofs.Acks.{Acks, Located, after-ack, unmoved, acknowledges}
@@ -114,10 +114,10 @@ data-is-taken c m now i head body d t l w p =
 
 -- ---- Data that makes a stream
 
-abbrev Makes : Header → List ℕ → ℕ → Result → Type 0
-Makes h body now r =
+abbrev Makes : Conn → Header → List ℕ → ℕ → Result → Type 0
+Makes c h body now r =
     Gave r (h .«stream_id» .0)
-    × ((i : ℕ) × (entry (r .after .slots) i ≡ newEntry (stream.dataTaken (stream.newInbound (h .«stream_id») initialWindow now) (length body) (contains (h .flags) fin)) body))
+    × InLowest c r (newEntry (stream.dataTaken (stream.newInbound (h .«stream_id») initialWindow now) (length body) (contains (h .flags) fin)) body)
 
 not-free : (b : Bool) → cond b false true ≡ false → b ≡ true
 not-free true e = refl
@@ -132,23 +132,23 @@ some-free es s f =
 module _ (h : Header) (body : List ℕ) (now : ℕ) (a : Acked) (k : Acks a (h .«stream_id») nowhere) (s : contains (h .flags) syn ≡ true) (r : contains (h .flags) rst ≡ false)
     (remote : isRemote (a .before .config .mode) (h .«stream_id») ≡ true) (few : listedCount (a .before .slots) < a .before .config .«max_num_streams») (small : length body ≤ initialWindow)
     (p : length body ≤ room (a .before)) (left : heldCount (a .before .slots) < a .before .config .slots) where
-  made-at : (q : Place) → Found isFree vacant (a .conn .slots) q →
-      Makes h body now (makeAt q a (stream.dataTaken (stream.newInbound (h .«stream_id») initialWindow now) (length body) (contains (h .flags) fin)) body)
+  made-at : (q : Place) → Found isFree vacant (a .conn .slots) q → lowestFree (a .before .slots) ≡ q →
+      Makes (a .before) h body now (makeAt q a (stream.dataTaken (stream.newInbound (h .«stream_id») initialWindow now) (length body) (contains (h .flags) fin)) body)
   unfolding makeAt
-  made-at nowhere f =
+  made-at nowhere f l =
       let z : a .conn .config .slots ≡ a .before .config .slots = rw (k .config) in
       absurd (some-free (a .conn .slots) (omega (arith, left, k .helds, k .inv .size, z)) f)
-  made-at (at i) f =
+  made-at (at i) f l =
       let spare : ltb (room (a .conn)) (length body) ≡ false = le-ltb (room (a .conn)) (length body) (rw (k .config, k .unread) p) in
-      rw spare ((refl, refl), (i, getD-set-same (a .conn .slots) i _ vacant (f .0)))
+      rw spare ((refl, refl), (i, l, refl, getD-set-same (a .conn .slots) i _ vacant (f .0)))
 
-  makes-data : Makes h body now (dataRules a h body nowhere now)
+  makes-data : Makes (a .before) h body now (dataRules a h body nowhere now)
   unfolding dataRules synData synRules make
   makes-data =
       let there : isRemote (a .conn .config .mode) (h .«stream_id») ≡ true = rw (k .config) remote in
       let fewer : leb (a .conn .config .«max_num_streams») (listedCount (a .conn .slots)) ≡ false = lt-leb (a .conn .config .«max_num_streams») (listedCount (a .conn .slots)) (rw (k .config, k .listeds) few) in
       let fits : ltb initialWindow (length body) ≡ false = le-ltb initialWindow (length body) small in
-      rw (r, s, there, fewer, fits) (made-at (lowestFree (a .conn .slots)) (found isFree vacant (a .conn .slots)))
+      rw (r, s, there, fewer, fits) (made-at (lowestFree (a .conn .slots)) (found isFree vacant (a .conn .slots)) (ap lowestFree (sym (k .unknown refl))))
 
 -- a place that no stream is known at
 unknown : (p : Place) → not (isKnown p) ≡ true → p ≡ nowhere
@@ -156,7 +156,7 @@ unknown (at i) e = true-not-false e refl
 unknown nowhere e = refl
 
 module _ (c : Conn) (v : Inv c) (live : c .ended ≡ false) (h : Header) (body : List ℕ) (now : ℕ) (o : opens c h body ≡ true) (p : length body ≤ room c) (left : heldCount (c .slots) < c .config .slots) where
-  makes-acked : Makes h body now (dataRules (ackStep c h (find (c .slots) (h .«stream_id»))) h body (find (c .slots) (h .«stream_id»)) now)
+  makes-acked : Makes c h body now (dataRules (ackStep c h (find (c .slots) (h .«stream_id»))) h body (find (c .slots) (h .«stream_id»)) now)
   makes-acked =
       let s = both _ _ o in
       let r = both _ _ (s .1) in
@@ -168,44 +168,44 @@ module _ (c : Conn) (v : Inv c) (live : c .ended ≡ false) (h : Header) (body :
       let reset = not-true (contains (h .flags) rst) (r .0) in
       let few = ltb-true (listedCount (c .slots)) (c .config .«max_num_streams») (f .0) in
       let small = leb-true (length body) initialWindow (f .1) in
-      subst (λ q. Makes h body now (dataRules (ackStep c h q) h body q now)) (sym place)
-      (after-ack c v live h nowhere l (λ a. Makes h body now (dataRules a h body nowhere now))
+      subst (λ q. Makes c h body now (dataRules (ackStep c h q) h body q now)) (sym place)
+      (after-ack c v live h nowhere l (λ a. Makes c h body now (dataRules a h body nowhere now))
       (λ b w. makes-data h body now _ (unmoved c v live (h .«stream_id») b w nowhere l) (s .0) reset (m .0) few small p left)
       (makes-data h body now _ (acknowledges c v live (h .«stream_id») nowhere l) (s .0) reset (m .0) few small p left))
 
-  makes-tag : (t : Tag) → t ≡ tag.Data → Makes h body now (frameRules t c h body (find (c .slots) (h .«stream_id»)) now)
+  makes-tag : (t : Tag) → t ≡ tag.Data → Makes c h body now (frameRules t c h body (find (c .slots) (h .«stream_id»)) now)
   unfolding frameRules
   makes-tag t e = rw e makes-acked
 
-  makes-header : h .tag ≡ tag.Data → h .length .0 ≡ length body → Makes h body now (onHeader c h body now)
+  makes-header : h .tag ≡ tag.Data → h .length .0 ≡ length body → Makes c h body now (onHeader c h body now)
   unfolding onHeader
   makes-header e n =
-      split (Makes h body now) (eqb (length body) (bodyLength (h .tag) (h .length .0)))
+      split (Makes c h body now) (eqb (length body) (bodyLength (h .tag) (h .length .0)))
       (λ b. makes-tag (h .tag) e)
       (λ b. true-not-false (right-length h body e n) b)
 
 pub syn-is-opened : SynIsOpened
 unfolding step onDecoded
 syn-is-opened c m now head body h d e n t live o p left =
-    subst (λ q. Makes h body now (onDecoded q c body now)) (sym d)
-    (subst (Makes h body now) (sym (timely c now _ t ∙ alive c _ live)) (makes-header c (reached m) live h body now o p left e n))
+    subst (λ q. Makes c h body now (onDecoded q c body now)) (sym d)
+    (subst (Makes c h body now) (sym (timely c now _ t ∙ alive c _ live)) (makes-header c (reached m) live h body now o p left e n))
 
 -- ---- an open
 
 abbrev Given : Conn → ℕ → Result → Type 0
-Given c now r = Gave r (c .nextId) × ((i : ℕ) × (entry (r .after .slots) i ≡ newEntry (stream.newOutbound (record { 0 = c .nextId }) now) []))
+Given c now r = Gave r (c .nextId) × InLowest c r (newEntry (stream.newOutbound (record { 0 = c .nextId }) now) [])
 
-given-at : (c : Conn) (now : ℕ) → heldCount (c .slots) < length (c .slots) → (p : Place) → Found isFree vacant (c .slots) p → Given c now (openAt p c now)
+given-at : (c : Conn) (now : ℕ) → heldCount (c .slots) < length (c .slots) → (p : Place) → Found isFree vacant (c .slots) p → lowestFree (c .slots) ≡ p → Given c now (openAt p c now)
 unfolding openAt
-given-at c now s (at i) f = ((refl, refl), (i, getD-set-same (c .slots) i _ vacant (f .0)))
-given-at c now s nowhere f = absurd (some-free (c .slots) s f)
+given-at c now s (at i) f l = ((refl, refl), (i, l, refl, getD-set-same (c .slots) i _ vacant (f .0)))
+given-at c now s nowhere f l = absurd (some-free (c .slots) s f)
 
 pub open-is-given : OpenIsGiven
 unfolding step open-rules
 open-is-given c m now t live few young left space =
     let v = reached m in
     subst (Given c now) (sym (timely c now _ t ∙ alive c _ live))
-    (rw (lt-leb _ _ few, lt-leb _ _ young, le-ltb _ _ left) (given-at c now (omega (arith, space, v .size)) (lowestFree (c .slots)) (found isFree vacant (c .slots))))
+    (rw (lt-leb _ _ few, lt-leb _ _ young, le-ltb _ _ left) (given-at c now (omega (arith, space, v .size)) (lowestFree (c .slots)) (found isFree vacant (c .slots)) refl))
 
 -- ---- a write
 
