@@ -11,6 +11,7 @@ use Rattle.frame.specs.Header.{contains, ack}
 use Rattle.frame.specs.declared.header.Header.{Header}
 use Rattle.frame.specs.declared.header.StreamId.{StreamId}
 use Rattle.stream.specs.Streams.{acknowledged}
+use Rattle.stream.specs.declared.Stream.{Stream}
 use Rattle.rules.specs.Lists.{Place, at, nowhere}
 use Rattle.rules.specs.State.{Entry, Conn, vacant, entry, one, hasId, listedCount, unreadTotal, room, withStream, withSlot, withOpenWait}
 use Rattle.rules.specs.Frames.{Acked, isKnown, ackStep, acknowledgeAt}
@@ -32,10 +33,15 @@ is-id id e h = eqb-true _ _ (both (e .listed) _ h .1)
 
 -- ---- the ACK step
 
--- the step leaves handles, ids, figures and bytes
+-- the same marks
+abbrev pub SameWaits : Stream → Stream → Type 0
+SameWaits s t = (s .reader ≡ t .reader) × (s .writer ≡ t .writer)
+
+-- the step leaves handles, ids, figures, marks and bytes
 pub record Acks (a : Acked) (id : StreamId) (place : Place) : Type 0 where
   pub inv : Inv (a .conn)
   pub before : Inv (a .before)
+  pub alive : a .before .ended ≡ false
   pub live : a .conn .ended ≡ false
   pub config : a .conn .config ≡ a .before .config
   pub next : a .conn .nextId ≡ a .before .nextId
@@ -44,6 +50,7 @@ pub record Acks (a : Acked) (id : StreamId) (place : Place) : Type 0 where
   pub helds : heldCount (a .conn .slots) ≡ heldCount (a .before .slots)
   pub listeds : listedCount (a .conn .slots) ≡ listedCount (a .before .slots)
   pub flows : (j : ℕ) → entry (a .conn .slots) j .stream .flow ≡ entry (a .before .slots) j .stream .flow
+  pub waits : (j : ℕ) → SameWaits (entry (a .conn .slots) j .stream) (entry (a .before .slots) j .stream)
   pub unread : unreadTotal (a .conn .slots) ≡ unreadTotal (a .before .slots)
   pub beside : (j : ℕ) → (place ≡ at j → ⊥) → entry (a .conn .slots) j ≡ entry (a .before .slots) j
   pub unknown : place ≡ nowhere → a .conn .slots ≡ a .before .slots
@@ -54,6 +61,7 @@ module _ (c : Conn) (v : Inv c) (live : c .ended ≡ false) (id : StreamId) wher
   unmoved b w place l = record {
     inv = v;
     before = v;
+    alive = live;
     live = live;
     config = refl;
     next = refl;
@@ -62,6 +70,7 @@ module _ (c : Conn) (v : Inv c) (live : c .ended ≡ false) (id : StreamId) wher
     helds = refl;
     listeds = refl;
     flows = λ j. refl;
+    waits = λ j. (refl, refl);
     unread = refl;
     beside = λ j n. refl;
     unknown = λ e. refl;
@@ -89,6 +98,7 @@ module _ (c : Conn) (v : Inv c) (live : c .ended ≡ false) (id : StreamId) wher
   acked i l = record {
     inv = stays c v i (known i) (c .growth) (known-stays i l);
     before = v;
+    alive = live;
     live = live;
     config = refl;
     next = refl;
@@ -97,6 +107,7 @@ module _ (c : Conn) (v : Inv c) (live : c .ended ≡ false) (id : StreamId) wher
     helds = omega (arith, sum-set (λ (e : Entry). one (e .held)) (c .slots) i (known i) vacant (l .0));
     listeds = omega (arith, sum-set (λ (e : Entry). one (e .listed)) (c .slots) i (known i) vacant (l .0));
     flows = at-set (λ j e. e .stream .flow ≡ entry (c .slots) j .stream .flow) (c .slots) i (known i) vacant (l .0) refl (λ j n. refl);
+    waits = at-set (λ j e. SameWaits (e .stream) (entry (c .slots) j .stream)) (c .slots) i (known i) vacant (l .0) (refl, refl) (λ j n. (refl, refl));
     unread = omega (arith, sum-set (λ (e : Entry). length (e .bytes)) (c .slots) i (known i) vacant (l .0));
     beside = λ j n. getD-set-other (c .slots) i j (known i) vacant (λ e. n (ap at (sym e)));
     unknown = λ e. true-not-false refl (ap isKnown e);

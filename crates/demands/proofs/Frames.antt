@@ -17,7 +17,6 @@ use Rattle.rtt.specs.Pings.{handlePong}
 use Rattle.rtt.specs.declared.Pong.{Pong}
 use Rattle.rtt.specs.declared.Pong.the-variants.{Accepted, Unexpected}
 use Rattle.flow_control.specs.Windows.{top, fresh, withReceive}
-use Rattle.stream.specs.declared.State.the-variants.{Closed}
 use Rattle.rules.specs.declared.Reply.the-variants as reply
 use Rattle.rules.specs.Lists.{Place, at, nowhere}
 use Rattle.rules.specs.State.{Conn, vacant, isRemote, hasId, find, listedCount, room}

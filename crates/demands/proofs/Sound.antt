@@ -170,7 +170,7 @@ end-good e g = record {
 }
 
 -- what holds of an entry that was ended holds of it in the table that was ended
-at-end : (P : ℕ → Entry → Type 0) (es : List Entry) → ((j : ℕ) → P j (endEntry (entry es j))) → (j : ℕ) → P j (entry (map endEntry es) j)
+pub at-end : (P : ℕ → Entry → Type 0) (es : List Entry) → ((j : ℕ) → P j (endEntry (entry es j))) → (j : ℕ) → P j (entry (map endEntry es) j)
 at-end P es h j = subst (P j) (sym (getD-map endEntry es j vacant refl)) (h j)
 
 end-growth : (e : Entry) → growthOf (endEntry e) ≡ growthOf e
