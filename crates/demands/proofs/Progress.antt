@@ -4,11 +4,11 @@ use mathlib.Core.Bool.{Bool, true, false, cond, not}
 use mathlib.Core.List.{List, [], _++_}
 use Prim.Native.Nat.{ℕ, _+_, _≤_, _<_}
 use native.Mathlib.Omega.{arith}
-use lib.ListN.{length, set, take}
+use lib.ListN.{length, set}
 use lib.Seq.{getD-set-same}
 use lib.Dec.{eqb, ltb, leb}
 use borrow.Author.Tests.{leb-true, ltb-true, not-true, le-leb, lt-leb, le-ltb, eq-eqb, ne-eqb}
-use Rattle.frame.specs.Header.{initialWindow, contains, syn, rst, fin}
+use Rattle.frame.specs.Header.{initialWindow, dataHeader, contains, syn, rst, fin}
 use Rattle.frame.specs.declared.header.Header.{Header}
 use Rattle.frame.specs.declared.header.StreamId.{StreamId}
 use Rattle.frame.specs.declared.header.Tag.{Tag}
@@ -17,7 +17,6 @@ use Rattle.stream.specs.Streams as stream
 use Rattle.stream.specs.declared.Flag.{Flag}
 use Rattle.stream.specs.declared.Flag.the-variants as owed
 use Rattle.rules.specs.declared.Reply.the-variants as reply
-use Rattle.rules.specs.declared.Value.the-variants as value
 use Rattle.rules.specs.Lists.{Place, at, nowhere}
 use Rattle.rules.specs.State.{Entry, Conn, vacant, entry, isFree, find, lowestFree, room, listedCount, isRemote}
 use Rattle.rules.specs.Ending.{Result}
@@ -26,9 +25,9 @@ use Rattle.rules.specs.Calls.{openAt, open-rules, writeWith, writeRules}
 use Rattle.rules.specs.Step.{onDecoded, step}
 use Rattle.demands.specs.Demands.{heldCount, opens}
 use Rattle.demands.specs.Theorems.{Gave}
-use Rattle.demands.specs.Progress.{InLowest, DataIsTaken, SynIsOpened, OpenIsGiven, WriteIsSent}
+use Rattle.demands.specs.Progress.{InLowest, Sends, DataIsTaken, SynIsOpened, OpenIsGiven, WriteIsSent}
 use Rattle.demands.proofs.Lists.{split, both, true-not-false, Found, found, sum-full}
-use Rattle.demands.proofs.Invariant.{Inv}
+use Rattle.demands.proofs.Invariant.{Inv, in-range}
 use Rattle.demands.proofs.Acks.{Acks, Located, after-ack, unmoved, acknowledges}
 use Rattle.demands.proofs.Steps.{reached}
 use Rattle.demands.proofs.Answers.{timely, holds, alive}
@@ -209,19 +208,30 @@ open-is-given c m now t live few young left space =
 
 -- ---- a write
 
-flag-length : (f : Flag) (id : StreamId) (n : ℕ) → stream.addFlag f (Rattle.frame.specs.Header.dataHeader id (record { 0 = n })) .length .0 ≡ n
+flag-length : (f : Flag) (id : StreamId) (n : ℕ) → stream.addFlag f (dataHeader id (record { 0 = n })) .length .0 ≡ n
 flag-length owed.None id n = refl
 flag-length owed.Syn id n = refl
 flag-length owed.Ack id n = refl
 
+sends : (c : Conn) (i : ℕ) (given : List ℕ) (n : ℕ) → entry (c .slots) i .held ≡ true → n ≤ entry (c .slots) i .stream .flow .«send_window» →
+    Sends c i given n (writeWith c i (entry (c .slots) i) given (stream.writeTaken (entry (c .slots) i .stream) n))
+unfolding writeWith
+sends c i given n h l =
+    let e = entry (c .slots) i in
+    let k = flag-length (e .stream .flag) (e .stream .id) n in
+    let x = getD-set-same (c .slots) i _ vacant (in-range (c .slots) i h) in (
+      rw k,
+      ap (λ (y : Entry). y .stream .flow .«send_window» + n) x ∙ omega (arith, l),
+      ap (λ (y : Entry). y .stream .flag) x,
+    )
+
 pub write-is-sent : WriteIsSent
-unfolding step writeRules writeWith
+unfolding step writeRules
 write-is-sent c now i given t live h w s =
     let e = entry (c .slots) i in
     let n = stream.writeCount (e .stream) (length given) (c .config .split) in
     let z : eqb (e .stream .flow .«send_window») 0 ≡ false = ne-eqb (e .stream .flow .«send_window») 0 (λ q. omega (arith, s, q)) in
-    let k = flag-length (e .stream .flag) (e .stream .id) n in
     rw (timely c now _ t, holds c i _ h)
-    (split (λ (r : Result). (r .outcome .reply ≡ reply.Done) × (r .outcome .value ≡ value.Of n) × (r .outcome .body ≡ take n given)) (c .ended)
+    (split (Sends c i given n) (c .ended)
     (λ q. true-not-false q live)
-    (λ q. rw (w, z) (refl, ap (λ (x : ℕ). value.Of x) k, ap (λ (x : ℕ). take x given) k)))
+    (λ q. rw (w, z) (sends c i given n h (omega arith))))

@@ -211,12 +211,21 @@ pub stale-drop : StaleDrop
 unfolding dropAt
 stale-drop c old new s now t =
     rw (stale-drop-is c old new s now t)
-    (refl, refl, getD-set-same (without c old new s) old vacant vacant (old-in c old new s), at-new c old new s, at-others c old new s)
+    (refl, refl, refl, getD-set-same (without c old new s) old vacant vacant (old-in c old new s), at-new c old new s, at-others c old new s)
 
 pub stale-drop-then-new : StaleDropThenNew
 unfolding dropAt
 stale-drop-then-new c old new s now later t u =
-    rw (stale-after c old new s now t, then-new c old new s later u) (refl, refl)
+    let es = set (without c old new s) old vacant in
+    let l : new < length es = rw (length-set (without c old new s) old vacant, length-set (c .slots) new (removedEntry (entry (c .slots) new))) (new-in c old new s) in
+    rw (stale-after c old new s now t, then-new c old new s later u) (
+      refl,
+      refl,
+      refl,
+      getD-set-other es new old vacant vacant (λ e. apart c old new s (sym e)) ∙ getD-set-same (without c old new s) old vacant vacant (old-in c old new s),
+      getD-set-same es new vacant vacant l,
+      (λ j o n. getD-set-other es new j vacant vacant n ∙ at-others c old new s j o n),
+    )
 
 pub new-drop : NewDrop
 unfolding dropAt
@@ -226,6 +235,7 @@ new-drop c old new s now t =
     let h = new-held c old new s in
     let l = in-range (c .slots) new h in
     rw (drop-is c now new (at new) t h (found-at c (reached (s .reached)) (e .stream .id) new (s .listed) refl)) (
+      refl,
       refl,
       refl,
       getD-set-same (set (c .slots) new x) new vacant vacant (rw (length-set (c .slots) new x) l),
