@@ -1,4 +1,4 @@
--- A handle that is still held after its stream was reset, and its number opened again. Sentences are document 01's.
+-- A handle that is still held after its stream was reset, and its number opened again. Sentences in quotes are document 01's.
 use mathlib.Core.Path.{_≡_}
 use mathlib.Core.Logic.{_≢_, _⊎_}
 use mathlib.Core.Bool.{true, false}

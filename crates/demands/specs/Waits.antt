@@ -1,4 +1,4 @@
--- "Woken means: cleared and reported if it was waiting. Only this or ending clears a wait." Sentences are document 01's.
+-- "Woken means: cleared and reported if it was waiting. Only this or ending clears a wait." Sentences in quotes are document 01's.
 use mathlib.Core.Path.{_≡_}
 use mathlib.Core.Logic.{_⊎_}
 use mathlib.Core.Bool.{Bool, true, false}
