@@ -15,15 +15,16 @@ use Rattle.stream.specs.declared.Stream.{Stream}
 use Rattle.rules.specs.Lists.{Place, at, nowhere}
 use Rattle.rules.specs.State.{Entry, Conn, vacant, entry, one, hasId, listedCount, unreadTotal, room, withStream, withSlot, withOpenWait}
 use Rattle.rules.specs.Frames.{Acked, isKnown, ackStep, acknowledgeAt}
+use Rattle.rules.proofs.Lists.{Says, sum-set}
 use Rattle.demands.specs.Demands.{heldCount}
-use Rattle.demands.proofs.Lists.{split, both, true-not-false, at-set, Found, sum-set}
+use Rattle.demands.proofs.Lists.{split, both, true-not-false, at-set}
 use Rattle.demands.proofs.Invariant.{Inv, Stays, held-good, stays}
 use Rattle.demands.proofs.Sound.{bytesOf, bytes-same}
 
 -- ---- a stream that was found
 
 abbrev pub Located : List Entry → StreamId → Place → Type 0
-Located es id place = Found (hasId id) vacant es place
+Located es id place = Says (hasId id) es vacant place
 
 pub is-listed : (id : StreamId) (e : Entry) → hasId id e ≡ true → e .listed ≡ true
 is-listed id e h = both (e .listed) _ h .0

@@ -18,7 +18,8 @@ use Rattle.rules.specs.Settings.{lastTime}
 use Rattle.rules.specs.Lists.{sum}
 use Rattle.rules.specs.State.{Entry, Conn, vacant, entry, one, firstOwn, isOwn, listedCount, unreadTotal}
 use Rattle.rules.specs.Calls.{growthOf}
-use Rattle.demands.proofs.Lists.{true-not-false, at-set, sum-set}
+use Rattle.rules.proofs.Lists.{sum-set}
+use Rattle.demands.proofs.Lists.{true-not-false, at-set}
 
 -- ---- what is kept
 

@@ -32,8 +32,9 @@ use Rattle.rules.specs.State.{Entry, Conn, vacant, entry, hasId, find, lowestFr
 use Rattle.rules.specs.Ending.{Result, gives, refuse, end}
 use Rattle.rules.specs.Frames.{Acked, ackStep, frameWakes, quiet, answer, whose, goAway, onReset, resetEntry, makeAt, make, synRules, synData, openedBy, synUpdate, takenEntry, takeAt, knownData, knownUpdate, dataRules, updateRules, pongRules, pingRules, answersPing, frameRules, bodyLength, onHeader}
 use Rattle.rules.specs.Step as rules
+use Rattle.rules.proofs.Lists.{first-says}
 use Rattle.demands.specs.Demands.{and}
-use Rattle.demands.proofs.Lists.{split, true-not-false, found as finds}
+use Rattle.demands.proofs.Lists.{split, true-not-false}
 use Rattle.demands.proofs.Invariant.{Inv}
 use Rattle.demands.proofs.Acks.{Acks, Located, SameWaits, after-ack, unmoved, acknowledges}
 
@@ -265,7 +266,7 @@ module _ (c : Conn) (v : Inv c) (live : c .ended ≡ false) (h : Header) (body :
   FrameOk r = Goes c place itself none r
 
   located : Located (c .slots) (h .«stream_id») place
-  located = finds (hasId (h .«stream_id»)) vacant (c .slots)
+  located = first-says (hasId (h .«stream_id»)) (c .slots) vacant
 
   -- what is so after an ACK step is so after this one
   acked : (rest : Acked → Result) → ((a : Acked) → Opened a → Acks a (h .«stream_id») place → Goes (a .before) place itself none (rest a)) → FrameOk (rest (ackStep c h place))

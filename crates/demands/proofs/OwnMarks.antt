@@ -23,7 +23,8 @@ use Rattle.rules.specs.Lists.{Place, at, nowhere}
 use Rattle.rules.specs.State.{Entry, Conn, vacant, entry, hasId, find, lowestFree, listedCount, unacknowledged, withStream, withGrowth, withPings}
 use Rattle.rules.specs.Ending.{Result}
 use Rattle.rules.specs.Calls.{growthOf, openAt, open-rules, readEntry, readRest, readWith, windowStep, readRules, writeWith, writeRules, closeRules, removedEntry, dropAt, dropRules, pingOut, tickRules}
-use Rattle.demands.proofs.Lists.{split, at-set, found as finds}
+use Rattle.rules.proofs.Lists.{first-says}
+use Rattle.demands.proofs.Lists.{split, at-set}
 use Rattle.demands.proofs.Invariant.{in-range}
 use Rattle.demands.proofs.Acks.{Located, SameWaits}
 use Rattle.demands.proofs.Marks.{clear-kept, clear-set, clear-off, Marks, Goes, Waits, stay, same-marks, idle, refused, calm, itself, none}
@@ -141,7 +142,7 @@ module _ (c : Conn) (i : ℕ) (held : entry (c .slots) i .held ≡ true) where
 
   pub drops : DropOk (find (c .slots) (old .stream .id)) (dropRules c i old)
   unfolding dropRules
-  drops = drops-at (c .growth - growthOf old) (find (c .slots) (old .stream .id)) (finds (hasId (old .stream .id)) vacant (c .slots))
+  drops = drops-at (c .growth - growthOf old) (find (c .slots) (old .stream .id)) (first-says (hasId (old .stream .id)) (c .slots) vacant)
 
 -- ---- open and tick
 

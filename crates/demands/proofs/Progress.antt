@@ -23,10 +23,11 @@ use Rattle.rules.specs.Ending.{Result}
 use Rattle.rules.specs.Frames.{Acked, synData, synRules, make, makeAt, isKnown, ackStep, takenEntry, newEntry, takeAt, knownData, dataRules, frameRules, bodyLength, onHeader}
 use Rattle.rules.specs.Calls.{openAt, open-rules, writeWith, writeRules}
 use Rattle.rules.specs.Step.{onDecoded, step}
+use Rattle.rules.proofs.Lists.{Says, first-says}
 use Rattle.demands.specs.Demands.{heldCount, opens}
 use Rattle.demands.specs.Theorems.{Gave}
 use Rattle.demands.specs.Progress.{InLowest, Sends, DataIsTaken, SynIsOpened, OpenIsGiven, WriteIsSent}
-use Rattle.demands.proofs.Lists.{split, both, true-not-false, Found, found, sum-full}
+use Rattle.demands.proofs.Lists.{split, both, true-not-false, sum-full}
 use Rattle.demands.proofs.Invariant.{Inv, in-range}
 use Rattle.demands.proofs.Acks.{Acks, Located, after-ack, unmoved, acknowledges}
 use Rattle.demands.proofs.Steps.{reached}
@@ -102,7 +103,7 @@ data-is-taken c m now i head body d t l w p =
     let h = d .header in
     let f = found-at c v (h .«stream_id») i l (sym (d .names)) in
     let live : c .ended ≡ false = not-ended (c .ended) (λ e. true-not-false l (v .quiet e i)) in
-    let located : Located (c .slots) (h .«stream_id») (at i) = subst (Located (c .slots) (h .«stream_id»)) f (found _ vacant (c .slots)) in
+    let located : Located (c .slots) (h .«stream_id») (at i) = subst (Located (c .slots) (h .«stream_id»)) f (first-says _ (c .slots) vacant) in
     subst (λ q. Takes c i body (onDecoded q c body now)) (sym (d .decodes))
     (subst (Takes c i body) (sym (timely c now _ t ∙ alive c _ live))
     (takes-header c v live h body now i (d .noSyn) (d .noRst) w p located (d .isData) (d .long) f))
@@ -123,7 +124,7 @@ not-free true e = refl
 not-free false e = true-not-false refl e
 
 -- with a slot left not all are held
-some-free : (es : List Entry) → heldCount es < length es → Found isFree vacant es nowhere → ⊥
+some-free : (es : List Entry) → heldCount es < length es → Says isFree es vacant nowhere → ⊥
 some-free es s f =
     let full = sum-full (λ (e : Entry). e .held) es vacant (λ j l. not-free (entry es j .held) (f j l)) in
     omega (arith, s, full)
@@ -131,7 +132,7 @@ some-free es s f =
 module _ (h : Header) (body : List ℕ) (now : ℕ) (a : Acked) (k : Acks a (h .«stream_id») nowhere) (s : contains (h .flags) syn ≡ true) (r : contains (h .flags) rst ≡ false)
     (remote : isRemote (a .before .config .mode) (h .«stream_id») ≡ true) (few : listedCount (a .before .slots) < a .before .config .«max_num_streams») (small : length body ≤ initialWindow)
     (p : length body ≤ room (a .before)) (left : heldCount (a .before .slots) < a .before .config .slots) where
-  made-at : (q : Place) → Found isFree vacant (a .conn .slots) q → lowestFree (a .before .slots) ≡ q →
+  made-at : (q : Place) → Says isFree (a .conn .slots) vacant q → lowestFree (a .before .slots) ≡ q →
       Makes (a .before) h body now (makeAt q a (stream.dataTaken (stream.newInbound (h .«stream_id») initialWindow now) (length body) (contains (h .flags) fin)) body)
   unfolding makeAt
   made-at nowhere f l =
@@ -147,7 +148,7 @@ module _ (h : Header) (body : List ℕ) (now : ℕ) (a : Acked) (k : Acks a (h .
       let there : isRemote (a .conn .config .mode) (h .«stream_id») ≡ true = rw (k .config) remote in
       let fewer : leb (a .conn .config .«max_num_streams») (listedCount (a .conn .slots)) ≡ false = lt-leb (a .conn .config .«max_num_streams») (listedCount (a .conn .slots)) (rw (k .config, k .listeds) few) in
       let fits : ltb initialWindow (length body) ≡ false = le-ltb initialWindow (length body) small in
-      rw (r, s, there, fewer, fits) (made-at (lowestFree (a .conn .slots)) (found isFree vacant (a .conn .slots)) (ap lowestFree (sym (k .unknown refl))))
+      rw (r, s, there, fewer, fits) (made-at (lowestFree (a .conn .slots)) (first-says isFree (a .conn .slots) vacant) (ap lowestFree (sym (k .unknown refl))))
 
 -- a place that no stream is known at
 unknown : (p : Place) → not (isKnown p) ≡ true → p ≡ nowhere
@@ -163,7 +164,7 @@ module _ (c : Conn) (v : Inv c) (live : c .ended ≡ false) (h : Header) (body :
       let n = both _ _ (m .1) in
       let f = both _ _ (n .1) in
       let place = unknown (find (c .slots) (h .«stream_id»)) (n .0) in
-      let l : Located (c .slots) (h .«stream_id») nowhere = subst (Located (c .slots) (h .«stream_id»)) place (found _ vacant (c .slots)) in
+      let l : Located (c .slots) (h .«stream_id») nowhere = subst (Located (c .slots) (h .«stream_id»)) place (first-says _ (c .slots) vacant) in
       let reset = not-true (contains (h .flags) rst) (r .0) in
       let few = ltb-true (listedCount (c .slots)) (c .config .«max_num_streams») (f .0) in
       let small = leb-true (length body) initialWindow (f .1) in
@@ -194,7 +195,7 @@ syn-is-opened c m now head body h d e n t live o p left =
 abbrev Given : Conn → ℕ → Result → Type 0
 Given c now r = Gave r (c .nextId) × InLowest c r (newEntry (stream.newOutbound (record { 0 = c .nextId }) now) [])
 
-given-at : (c : Conn) (now : ℕ) → heldCount (c .slots) < length (c .slots) → (p : Place) → Found isFree vacant (c .slots) p → lowestFree (c .slots) ≡ p → Given c now (openAt p c now)
+given-at : (c : Conn) (now : ℕ) → heldCount (c .slots) < length (c .slots) → (p : Place) → Says isFree (c .slots) vacant p → lowestFree (c .slots) ≡ p → Given c now (openAt p c now)
 unfolding openAt
 given-at c now s (at i) f l = ((refl, refl), (i, l, refl, getD-set-same (c .slots) i _ vacant (f .0)))
 given-at c now s nowhere f l = absurd (some-free (c .slots) s f)
@@ -204,7 +205,7 @@ unfolding step open-rules
 open-is-given c m now t live few young left space =
     let v = reached m in
     subst (Given c now) (sym (timely c now _ t ∙ alive c _ live))
-    (rw (lt-leb _ _ few, lt-leb _ _ young, le-ltb _ _ left) (given-at c now (omega (arith, space, v .size)) (lowestFree (c .slots)) (found isFree vacant (c .slots)) refl))
+    (rw (lt-leb _ _ few, lt-leb _ _ young, le-ltb _ _ left) (given-at c now (omega (arith, space, v .size)) (lowestFree (c .slots)) (first-says isFree (c .slots) vacant) refl))
 
 -- ---- a write
 

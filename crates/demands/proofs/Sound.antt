@@ -21,9 +21,10 @@ use Rattle.rules.specs.Replies.{Outcome, leavesAll, mayGive}
 use Rattle.rules.specs.State.{Entry, Conn, vacant, entry, one, isOwn, room, unreadTotal}
 use Rattle.rules.specs.Ending.{Result, gives, refuse, end, ended, endEntry}
 use Rattle.rules.specs.Calls.{growthOf}
+use Rattle.rules.proofs.Lists.{sum-set}
 use Rattle.demands.specs.Demands.{heldCount}
 use Rattle.demands.specs.History.{Event, nothing, made, accepted, gaveOut, freed, put}
-use Rattle.demands.proofs.Lists.{true-not-false, at-set, getD-map, sum-set, sum-map, sum-map-none, sum-le, sum-add, sum-each}
+use Rattle.demands.proofs.Lists.{true-not-false, at-set, getD-map, sum-map, sum-map-none, sum-le, sum-add, sum-each}
 use Rattle.demands.proofs.Invariant.{Flows, Good, Inv}
 
 -- ---- bytes
