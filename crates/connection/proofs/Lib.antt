@@ -1,2 +1,3 @@
 -- Laws that the proofs of the calls share.
 pub mod Ending
+pub mod Unique

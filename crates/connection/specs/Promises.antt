@@ -13,7 +13,7 @@ use Rattle.rules.specs.declared.Reply.the-variants as reply
 use Rattle.rules.specs.declared.Which.the-variants as which
 use Rattle.rules.specs.declared.Value.the-variants as value
 use Rattle.rules.specs.Settings.{lastTime}
-use Rattle.rules.specs.Replies.{Outcome, leavesAll}
+use Rattle.rules.specs.Replies.{Outcome, leavesAll, mayGive}
 use Rattle.rules.specs.Ending.{Result, end}
 use Rattle.rules.specs.Step.{Call, step}
 use Rattle.handlers.specs.declared.Answer.{Answer}
@@ -49,6 +49,11 @@ gateOf ended now = cond (ltb lastTime now) (gate.Shut reply.Time) (cond ended (g
 -- "Lent output changes only in the bytes read": those, and the rest as it was
 abbrev pub outAfter : List ℕ → List ℕ → List ℕ
 outAfter bytes out = bytes ++ drop (length bytes) out
+
+-- "Lent output changes only in the bytes read and in the 12 of a header given; replies but 0, 1 and 2 give neither."
+pub record Gives (d : Done) (s s′ : List ℕ) : Type 0 where
+  pub header : s′ ≡ sentAfter (d .answer .sent) s
+  pub only : mayGive (d .answer .reply) ≡ false → (d .answer .sent ≡ Nothing) × (d .read ≡ 0)
 
 -- the answer is the outcome's, but for bytes
 pub record Says (a : Answer) (o : Outcome) : Type 0 where

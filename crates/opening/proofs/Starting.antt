@@ -67,7 +67,7 @@ first-parity : (mode : Mode) → isOwn mode (record { 0 = firstOwn mode }) ≡ t
 first-parity Client = refl
 first-parity Server = refl
 
-entry-replicate : (n i : ℕ) → entry (replicate n vacant) i ≡ vacant
+pub entry-replicate : (n i : ℕ) → entry (replicate n vacant) i ≡ vacant
 entry-replicate zero i = refl
 entry-replicate (suc n) zero = refl
 entry-replicate (suc n) (suc i) = entry-replicate n i
