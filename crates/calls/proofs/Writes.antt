@@ -32,7 +32,7 @@ use Rattle.connection.specs.declared.Done.{Done}
 use Rattle.calls.specs.declared.Handle.the-variants.{Held, Refused}
 use Rattle.calls.specs.Given.{Carries}
 use Rattle.calls.specs.Parts.{handleOf, Keeps, Acts}
-use Rattle.calls.proofs.Promises.{refusing, following}
+use Rattle.connection.proofs.Promises.{refusing, following}
 use Rattle.calls.proofs.Handles.{store-performs, handle-refused, handle-held, at-row, row-follows}
 
 -- ---- the body

@@ -1,6 +1,6 @@
 -- Two outcomes that meet one call's promise are the same. Assumes nothing.
-use mathlib.Core.Path.{_≡_, refl, sym, ap, _∙_}
-use mathlib.Core.Bool.{Bool, true, false}
+use mathlib.Core.Path.{_≡_, sym, ap, _∙_}
+use mathlib.Core.Bool.{Bool, true}
 use mathlib.Core.List.{List}
 use Prim.Native.Nat.{ℕ}
 use Rattle.chunks.specs.declared.Free.{Free}
@@ -13,7 +13,7 @@ use Rattle.handlers.specs.declared.Answer.{Answer}
 use Rattle.memory.specs.Unique as memory
 use Rattle.memory.proofs.Unique as memories
 use Rattle.connection.specs.Abstract.{absOf, Valid}
-use Rattle.connection.specs.Promises.{refused, sentAfter, Says, Gives, Follows, Promised}
+use Rattle.connection.specs.Promises.{sentAfter, Says, Gives, Follows, Promised}
 use Rattle.connection.specs.Unique.{withFree, Alike, Same, Equal, Unique}
 use Rattle.connection.specs.declared.Connection.{Connection}
 use Rattle.connection.specs.declared.Done.{Done}

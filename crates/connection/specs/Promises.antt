@@ -74,6 +74,12 @@ pub record Follows (c : Connection) (t l p : List ℕ) (rule : Result) (d : Done
 abbrev pub Ends : Connection → List ℕ → Reply → Done → List ℕ → Type 0
 Ends c t r d t′ = (l p : List ℕ) → Valid c t l p → Follows c t l p (end (absOf c t l p) r) d t′ l p
 
+-- the same, with an answer of the reply alone on any contents
+pub record Over (c : Connection) (t : List ℕ) (r : Reply) (d : Done) (t′ : List ℕ) : Type 0 where
+  pub answer : d .answer ≡ bareAnswer r true
+  pub read : d .read ≡ 0
+  pub ends : Ends c t r d t′
+
 -- What every call promises, `sized` saying whether all that is lent has its size: from a valid state it is the rules' step;
 -- a wrong size is 14, before all else; and a refusal leaves connection, table, links and pool as they were.
 pub record Promised (sized : Bool) (c : Connection) (t l p : List ℕ) (call : Call) (d : Done) (t′ l′ p′ : List ℕ) : Type 0 where

@@ -1,5 +1,5 @@
 -- The sizes that a drop tests.
-use mathlib.Core.Bool.{Bool, true, false, cond}
+use mathlib.Core.Bool.{Bool, false, cond}
 use Prim.Native.Nat.{ℕ}
 use lib.Dec.{eqb}
 use Rattle.chunks.specs.Blocks.{blocksFor}

@@ -5,10 +5,10 @@ use mathlib.Core.Path.{_≡_, refl, sym, ap, _∙_}
 use Prim.Native.Nat.{ℕ, zero, suc, _+_, _<_}
 use native.Mathlib.Omega.{arith}
 use lib.ListN.{length}
-use Rattle.chunks.specs.Blocks.{hold, blocksFor}
+use Rattle.chunks.specs.Blocks.{blocksFor}
 use Rattle.chunks.specs.Many.{sizes}
 use Rattle.chunks.specs.Many as many
-use Rattle.chunks.specs.Store.{size, content, none}
+use Rattle.chunks.specs.Store.{size, content}
 use Rattle.chunks.specs.declared.Queue.{Queue}
 use Rattle.rules.specs.State.{Entry, entry}
 use Rattle.table.specs.Table.{rowAt, view, nth}

@@ -7,19 +7,18 @@ use native.Mathlib.Omega.{arith}
 use lib.ListN.{length}
 use Rattle.chunks.specs.declared.Queue.{Queue}
 use Rattle.rules.specs.Settings.{checked}
-use Rattle.rules.specs.State.{Entry, Conn, entry, vacant, initial}
+use Rattle.rules.specs.State.{Entry, Conn, entry, vacant}
 use Rattle.rules.specs.declared.Config.{Config}
 use Rattle.rules.specs.declared.Settings.{Settings}
 use Rattle.rules.specs.declared.Checked.{Checked}
 use Rattle.rules.specs.declared.Checked.the-variants as settings
 use Rattle.table.specs.Table.{rowAt}
 use Rattle.memory.proofs.Laws.{entry-held}
-use Rattle.connection.specs.Abstract.{absOf, Valid}
-use Rattle.connection.specs.Unique.{Alike}
+use Rattle.connection.specs.Abstract.{absOf}
 use Rattle.connection.proofs.Unique.{alike}
 use Rattle.connection.specs.declared.Connection.{Connection}
 use Rattle.opening.specs.Start.{sized, Begins, Creates}
-use Rattle.opening.specs.Unique.{MadeAlike, Equal, Same}
+use Rattle.opening.specs.Unique.{MadeAlike, Same}
 use Rattle.opening.specs.declared.Created.{Created}
 use Rattle.opening.specs.declared.Created.the-variants.{Made, Wrong, Size}
 use Rattle.opening.proofs.Starting.{entry-replicate}
