@@ -1,5 +1,4 @@
 -- Laws of the handlers: what a new stream takes, and that performing an action is what the rules say.
 pub mod Firsts
-pub mod Places
 pub mod Rules
 pub mod Locals

@@ -36,7 +36,7 @@ use Rattle.handlers.specs.declared.Limits.{Limits}
 use Rattle.handlers.specs.declared.Action.{Action}
 use Rattle.handlers.specs.declared.Action.the-variants as action
 use Rattle.handlers.specs.declared.Pong.{Pong}
-use Rattle.handlers.proofs.Places.{PassesAt, first-passes, sum-set}
+use Rattle.rules.proofs.Lists.{Says, first-says, sum-kept}
 
 -- every stream in the table has its handle held
 abbrev pub ListedHeld : Conn → Type 0
@@ -88,7 +88,7 @@ module _ (c a : Conn) (woke : Bool) (h : Header) (body : List ℕ) (now : ℕ) w
     reset-at = rw (same, set-set, lives .1, append-nil)
 
     room-kept : room (connOf a (known.At i s)) ≡ room a
-    room-kept = rw (sum-set (λ e. length (e .bytes)) (a .slots) (i .0) (withStream (entry (a .slots) (i .0)) s) vacant refl)
+    room-kept = rw (sum-kept (λ e. length (e .bytes)) (a .slots) (i .0) (withStream (entry (a .slots) (i .0)) s) vacant refl)
 
     data-at : (n : ℕ) (r : Received) → length body ≡ n →
         takeAt (i .0) (stepped (known.At i s)) h body r ≡ does (dataTake i s (room a) woke (contains (h .flags) fin) n r)
@@ -218,12 +218,12 @@ and-first false x g = g
 has-listed : (id : StreamId) (e : Entry) → hasId id e ≡ true → e .listed ≡ true
 has-listed id e h = and-first (e .listed) (eqb (e .stream .id .0) (id .0)) h
 
-found-lives : (c : Conn) (id : StreamId) (place : Place) → ListedHeld c → PassesAt (hasId id) (c .slots) vacant place → livesAt c place
+found-lives : (c : Conn) (id : StreamId) (place : Place) → ListedHeld c → Says (hasId id) (c .slots) vacant place → livesAt c place
 found-lives c id (at i) held p = let l = has-listed id (entry (c .slots) i) (p .1) in (p .0, held i l, l)
 found-lives c id nowhere held p = tt
 
 pub find-lives : (c : Conn) (id : StreamId) → ListedHeld c → livesAt c (find (c .slots) id)
-find-lives c id held = found-lives c id (find (c .slots) id) held (first-passes (hasId id) (c .slots) vacant)
+find-lives c id held = found-lives c id (find (c .slots) id) held (first-says (hasId id) (c .slots) vacant)
 
 -- ---- the laws
 

@@ -59,7 +59,7 @@ digits-lead (suc k) n h p = go (ltb n 10) refl (λ l. digits-lead k (n / 10) (om
     go true q ih = omega arith
     go false q ih = longer (digits k (n / 10)) ((48 + n % 10) ∷ []) (ih (ltb-false _ _ q))
 
--- "without leading zeros"
+-- no leading zero
 pub decimal-leads : (n : ℕ) → 0 < n → 48 < getD (decimal n) 0 0
 unfolding decimal
 decimal-leads n p = digits-lead n n (omega arith) p

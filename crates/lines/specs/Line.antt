@@ -64,8 +64,8 @@ wakesText w = cond (w .all) (97 ∷ []) (orDash (marks w))
 abbrev pub field : List ℕ → ℕ → List ℕ
 field text end = text ++ (end ∷ [])
 
--- "Line: event number, reply, slot, value, header sent in hex, wakes, bytes read in hex"; `header` is no byte or the header's
--- twelve, and `bytes` are those read
+-- "Line: event number, reply, slot .., value .., header sent in hex, wakes .., bytes read in hex"; `header` is no byte or the
+-- header's twelve, and `bytes` are those read
 unfoldable pub lineOf : Shown → List ℕ → List ℕ → List ℕ
 lineOf s header bytes =
     field (decimal (s .number)) 32

@@ -25,7 +25,7 @@ use Rattle.table.specs.Rows.{Proper, blank}
 use Rattle.table.specs.Table.{size, rowAt, view, stored, inserted, Tied, Distinct, nth}
 use Rattle.table.specs.declared.row.Row.{Row}
 use Rattle.table.proofs.Laws.{length-view, nth-view, proper-row, length-stored, length-inserted, view-stored, tied-stored, view-inserted, tied-inserted}
-use Rattle.table.proofs.Lists.{Says, first-says, sum-set, sum-at}
+use Rattle.rules.proofs.Lists.{Says, first-says, sum-set, sum-at}
 use Rattle.table.proofs.Packing.{proper-rowOf}
 use Rattle.table.proofs.Searches.{distinct-set}
 use Rattle.memory.specs.Counts.{left, next, counted}

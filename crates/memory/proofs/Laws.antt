@@ -26,7 +26,7 @@ use Rattle.table.specs.Table as table
 use Rattle.table.specs.declared.row.Row.{Row}
 use Rattle.table.specs.declared.Found.{Found}
 use Rattle.table.proofs.Laws.{length-view, nth-view}
-use Rattle.table.proofs.Lists.{Says, first-says, first-same, sum-same}
+use Rattle.rules.proofs.Lists.{Says, first-says, first-same, sum-same}
 use Rattle.table.proofs.Searches.{found, lowest}
 use Rattle.memory.specs.Counts.{fits}
 use Rattle.memory.specs.Moves.{held}

@@ -67,7 +67,7 @@ answer a slot v h w = record { reply = reply.Done; slot = slot; value = v; heade
 abbrev pub noAction : Acked → Result
 noAction a = gives (answer a which.None value.None Nothing quiet) (a .conn)
 
--- "GoAway to send: header with code 1 or 2; the connection goes on"
+-- 2, "GoAway to send": "header with code 1 or 2; the connection goes on"
 abbrev pub goAway : Acked → ℕ → Result
 goAway a code =
     gives

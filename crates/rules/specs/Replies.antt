@@ -4,8 +4,6 @@ use mathlib.Core.List.{List, []}
 use Prim.Native.Nat.{ℕ}
 use Rattle.stream.specs.declared.Sent.{Sent}
 use Rattle.stream.specs.declared.Sent.the-variants.{Frame, Nothing}
-use Rattle.rules.specs.declared.Checked.{Checked}
-use Rattle.rules.specs.declared.Checked.the-variants.{Fine, Wrong}
 use Rattle.rules.specs.declared.Reply.{Reply}
 use Rattle.rules.specs.declared.Reply.the-variants as reply
 use Rattle.rules.specs.declared.Which.{Which}
@@ -66,11 +64,6 @@ mayGive reply.Version = false
 mayGive reply.Type = false
 mayGive reply.Body = false
 mayGive reply.Size = false
-
--- "settings ..: no connection made"
-abbrev pub checkedReply : Checked → Reply
-checkedReply (Fine c) = reply.Done
-checkedReply (Wrong s) = reply.Size
 
 -- All that a call gives: the reply, the slot and the value that its line shows, the header to send and the body that goes
 -- with it (the caller's own bytes), who is woken, and the bytes read.

@@ -18,7 +18,8 @@ use Rattle.table.specs.Rows.{isUnacknowledged, blank}
 use Rattle.table.specs.Table.{foundOf, scanned, Finds, rowAt, view, unacknowledged}
 use Rattle.table.specs.declared.row.Row.{Row}
 use Rattle.table.specs.declared.Found.the-variants.{At, Nowhere}
-use Rattle.table.proofs.Lists.{Says, first-says, first-at, first-nowhere, length-tabulate, getD-tabulate, sum-drop}
+use Rattle.rules.proofs.Lists.{Says, first-says, first-at, first-nowhere, sum-drop}
+use Rattle.table.proofs.Lists.{length-tabulate, getD-tabulate}
 
 -- ---- keys
 

@@ -19,7 +19,8 @@ use Rattle.table.specs.declared.row.Row.{Row}
 use Rattle.table.specs.declared.Found.{Found}
 use Rattle.table.specs.declared.Found.the-variants.{At, Nowhere}
 use Rattle.table.proofs.Laws.{length-view, nth-view, row-held, row-listed}
-use Rattle.table.proofs.Lists.{false-of, first-at, first-nowhere, first-same}
+use Rattle.rules.proofs.Lists.{first-at, first-nowhere, first-same}
+use Rattle.table.proofs.Lists.{false-of}
 
 -- ---- an answer and the place that it stands for
 

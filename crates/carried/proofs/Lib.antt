@@ -1,0 +1,2 @@
+-- The proofs of `Lives`.
+pub mod Lives

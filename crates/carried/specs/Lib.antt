@@ -1,0 +1,2 @@
+-- What any calls on a new connection leave in the code's own state.
+pub mod Lives

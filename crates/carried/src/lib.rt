@@ -1,0 +1,1 @@
+// The third demand, of the connection and the memory that the code holds. Nothing here runs: specs/ states it, proofs/ proves it.
