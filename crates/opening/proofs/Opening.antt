@@ -22,7 +22,8 @@ use Rattle.rules.specs.declared.Reply.{Reply}
 use Rattle.rules.specs.declared.Reply.the-variants as reply
 use Rattle.rules.specs.declared.Slot.{Slot}
 use Rattle.table.specs.Table.{lowestFree, unacknowledged, foundOf}
-use Rattle.table.proofs.Lists.{first-nowhere, false-of}
+use Rattle.rules.proofs.Lists.{first-nowhere}
+use Rattle.table.proofs.Lists.{false-of}
 use Rattle.handlers.specs.Locals.{openWith, openAction, performOpen}
 use Rattle.handlers.specs.Perform.{vacancyOf}
 use Rattle.handlers.specs.declared.Opening.the-variants as opening
