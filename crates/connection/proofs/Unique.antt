@@ -13,7 +13,7 @@ use Rattle.handlers.specs.declared.Answer.{Answer}
 use Rattle.memory.specs.Unique as memory
 use Rattle.memory.proofs.Unique as memories
 use Rattle.connection.specs.Abstract.{absOf, Valid}
-use Rattle.connection.specs.Promises.{sentAfter, Says, Gives, Follows, Promised}
+use Rattle.connection.specs.Promises.{sentAfter, Says, Follows, Promised}
 use Rattle.connection.specs.Unique.{withFree, Alike, Same, Equal, Unique}
 use Rattle.connection.specs.declared.Connection.{Connection}
 use Rattle.connection.specs.declared.Done.{Done}
@@ -86,5 +86,5 @@ module _ (sized : Bool) (c : Connection) (t l p : List ℕ) (call : Call) (d : D
 -- ---- lent output
 
 -- one answer gives one header
-pub header-unique : (d e : Done) (s s₁ s₂ : List ℕ) → d .answer ≡ e .answer → Gives d s s₁ → Gives e s s₂ → s₁ ≡ s₂
-header-unique d e s s₁ s₂ same x y = x .header ∙ ap (λ (a : Answer). sentAfter (a .sent) s) same ∙ sym (y .header)
+pub header-unique : (d e : Done) (s s₁ s₂ : List ℕ) → d .answer ≡ e .answer → s₁ ≡ sentAfter (d .answer .sent) s → s₂ ≡ sentAfter (e .answer .sent) s → s₁ ≡ s₂
+header-unique d e s s₁ s₂ same x y = x ∙ ap (λ (a : Answer). sentAfter (a .sent) s) same ∙ sym y

@@ -5,11 +5,10 @@ use mathlib.Core.List.{List}
 use Prim.Native.Nat.{ℕ}
 use lib.ListN.{length, drop}
 use Rattle.rules.specs.Step.{read}
-use Rattle.handlers.specs.declared.Answer.{Answer}
 use Rattle.connection.specs.Abstract.{Valid}
-use Rattle.connection.specs.Promises.{sentAfter, Promised}
+use Rattle.connection.specs.Promises.{Promised}
 use Rattle.connection.specs.Unique.{Unique}
-use Rattle.connection.proofs.Unique.{unique}
+use Rattle.connection.proofs.Unique.{unique, header-unique}
 use Rattle.connection.specs.declared.Connection.{Connection}
 use Rattle.connection.specs.declared.Done.{Done}
 use Rattle.reading.specs.Promises.{Outputs}
@@ -22,7 +21,7 @@ module _ (sized : Bool) (c : Connection) (t l p : List ℕ) (time i : ℕ) (out 
   both = unique sized c t l p (read time i (length out)) d t₁ l₁ p e t₂ l₂ p x y
 
   headers : d .answer ≡ e .answer → sent₁ ≡ sent₂
-  headers same = a .header ∙ ap (λ (z : Answer). sentAfter (z .sent) sent) same ∙ sym (b .header)
+  headers same = header-unique d e sent sent₁ sent₂ same (a .header) (b .header)
 
   -- from a valid state
   pub outputs-unique : sized ≡ true → Valid c t l p → (out₁ ≡ out₂) × (sent₁ ≡ sent₂)
