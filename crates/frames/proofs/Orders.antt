@@ -20,7 +20,7 @@ use Rattle.rtt.specs.declared.Pong as heard
 use Rattle.rtt.specs.declared.Pong.the-variants.{Accepted, Unexpected}
 use Rattle.rtt.specs.declared.Rtt.{Rtt}
 use Rattle.rules.specs.Lists.{Place, at, nowhere}
-use Rattle.rules.specs.Replies.{leavesAll, mayGive}
+use Rattle.rules.specs.Replies.{mayGive}
 use Rattle.rules.specs.Settings.{lastTime}
 use Rattle.rules.specs.State.{Conn, find}
 use Rattle.rules.specs.Ending.{Result, refuse}
@@ -37,12 +37,12 @@ use Rattle.memory.specs.Counts.{fits}
 use Rattle.memory.specs.Slots.{slotsOf}
 use Rattle.memory.proofs.Laws.{never, find-slots}
 use Rattle.connection.specs.Abstract.{absOf, Valid}
-use Rattle.connection.specs.Promises.{refused, gateOf, sentAfter, Follows, Promised}
+use Rattle.connection.specs.Promises.{refused, gateOf, Follows, Promised}
 use Rattle.connection.specs.declared.Connection.{Connection}
 use Rattle.connection.specs.declared.Done.{Done}
 use Rattle.connection.specs.declared.Gate.the-variants as gate
 use Rattle.frames.specs.Shown.{isFound}
-use Rattle.frames.specs.Handles.{Handles, HandlesPing, Shuts, HandlesHeader, opened, HandlesOpened, HandlesDecoded, sized, Gives}
+use Rattle.frames.specs.Handles.{Handles, HandlesPing, Shuts, HandlesHeader, opened, HandlesOpened, HandlesDecoded, sized}
 use Rattle.frames.proofs.Settling.{no-refusal, refused-handles}
 use Rattle.frames.proofs.Arrives.{same-handles}
 

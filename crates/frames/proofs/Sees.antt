@@ -2,25 +2,23 @@
 use mathlib.Core.Path.{_≡_, refl, sym, ap, _∙_}
 use mathlib.Core.Bool.{Bool, true, false, cond}
 use mathlib.Core.List.{List}
-use Prim.Native.Nat.{ℕ, _+_, _-_, _%_, _≤_, _<_}
+use Prim.Native.Nat.{ℕ, _-_, _%_}
 use native.Mathlib.Omega.{arith}
 use borrow.Author.Tests.{ltb-false, eqb-true, ne-eqb}
-use lib.Dec.{ltb, eqb}
-use lib.ListN.{length}
+use lib.Dec.{ltb}
 use Rattle.frame.specs.Header.{contains, ack, syn, rst}
 use Rattle.frame.specs.declared.header.Header.{Header}
 use Rattle.frame.specs.declared.header.StreamId.{StreamId}
 use Rattle.stream.specs.Streams.{acknowledged}
 use Rattle.stream.specs.declared.Stream.{Stream}
 use Rattle.rules.specs.Lists.{Place, at, nowhere}
-use Rattle.rules.specs.State.{Entry, Conn, entry, find, lowestFree, listedCount, unreadTotal, isOwn, isRemote, withOpenWait}
+use Rattle.rules.specs.State.{Entry, entry, find, lowestFree, listedCount, unreadTotal, isOwn, isRemote, withOpenWait}
 use Rattle.rules.specs.declared.Mode.{Mode}
 use Rattle.rules.specs.declared.Mode.the-variants.{Client, Server}
 use Rattle.rules.specs.declared.Slot.{Slot}
 use Rattle.table.specs.Table.{rowAt, foundOf, Finds}
 use Rattle.table.specs.Table as table
 use Rattle.table.specs.declared.Found.{Found}
-use Rattle.table.specs.declared.row.Row.{Row}
 use Rattle.handlers.specs.Actions.{acked}
 use Rattle.handlers.specs.Perform.{knownAt, vacancyOf, limitsOf, withoutWait}
 use Rattle.handlers.specs.declared.Action.{Action}
@@ -29,7 +27,7 @@ use Rattle.handlers.specs.declared.Limits.{Limits}
 use Rattle.handlers.specs.declared.Vacancy.{Vacancy}
 use Rattle.handlers.specs.declared.Vacancy.the-variants as vacancy
 use Rattle.memory.specs.Slots.{slotsOf}
-use Rattle.memory.proofs.Laws.{never, find-slots, find-at, free-slots, free-at, entry-held, entry-of-held, listed-count, room-slots}
+use Rattle.memory.proofs.Laws.{find-slots, find-at, free-slots, free-at, entry-held, entry-of-held, listed-count, room-slots}
 use Rattle.connection.specs.Abstract.{absOf, Valid}
 use Rattle.connection.specs.declared.Connection.{Connection}
 use Rattle.frames.specs.Shown.{seenAt, vacant, vacancyFor, limitsIn, waitAfter}
