@@ -1,5 +1,4 @@
 -- Laws that the proofs of the calls share.
-pub mod Promises
 pub mod Locals
 pub mod Handles
 pub mod Writes

@@ -1,19 +1,17 @@
--- What a tick and a stream put back at its slot leave of a valid connection. Assumes nothing.
-use mathlib.Core.Path.{_≡_, refl, sym, ap, _∙_}
-use mathlib.Core.Bool.{Bool, true, false, cond}
-use mathlib.Core.List.{List, [], _∷_}
-use Prim.Native.Nat.{ℕ, zero, suc, _<_}
-use lib.ListN.{set}
+-- What a peer gone, a tick and a stream put back at its slot leave of a valid connection. Assumes nothing.
+use mathlib.Core.Path.{_≡_, refl, _∙_}
+use mathlib.Core.Bool.{Bool}
+use mathlib.Core.List.{List}
+use Prim.Native.Nat.{ℕ}
 use Rattle.rtt.specs.Pings.{nextPing}
 use Rattle.rtt.specs.declared.Rtt.{Rtt}
 use Rattle.rtt.specs.declared.NextPing.{NextPing}
 use Rattle.rtt.specs.declared.NextPing.the-variants as ask
 use Rattle.stream.specs.declared.Stream.{Stream}
-use Rattle.rules.specs.State.{Entry, Conn, entry, withSlot, isOwn}
-use Rattle.rules.specs.Step.{tick, step}
+use Rattle.rules.specs.State.{Conn, entry, withSlot}
+use Rattle.rules.specs.Step.{gone, tick, step}
 use Rattle.rules.specs.Calls.{tickRules}
-use Rattle.rules.specs.Ending.{refuse, gives}
-use Rattle.rules.specs.declared.Mode.{Mode}
+use Rattle.rules.specs.Ending.{refuse, gives, end}
 use Rattle.rules.specs.declared.Reply.{Reply}
 use Rattle.rules.specs.declared.Reply.the-variants as reply
 use Rattle.handlers.specs.Locals.{pingSent, onTick}
@@ -23,24 +21,36 @@ use Rattle.handlers.proofs.Locals.{tick-performs}
 use Rattle.memory.specs.Moves as memory
 use Rattle.memory.specs.Slots.{slotsOf}
 use Rattle.memory.specs.declared.Memory.{Memory}
-use Rattle.connection.specs.Abstract.{absOf, Valid, Fresh}
+use Rattle.connection.specs.Abstract.{absOf, Valid}
 use Rattle.connection.specs.Promises.{gateOf, Follows}
 use Rattle.connection.specs.declared.Connection.{Connection}
 use Rattle.connection.specs.declared.Done.{Done}
 use Rattle.connection.specs.declared.Gate.the-variants as gate
+use Rattle.connection.proofs.Tests.{gate-shut, gate-open}
+use Rattle.connection.proofs.Ids.{below-replaced}
 use Rattle.calls.specs.Parts.{pinged}
-use Rattle.calls.proofs.Promises.{gate-shut, gate-open}
+
+-- ---- peer gone
+
+module _ (c : Conn) (now : ℕ) where
+  pub gone-shut : (r : Reply) → gateOf (c .ended) now ≡ gate.Shut r → step c (gone now) ≡ refuse c r
+  unfolding step
+  gone-shut r e = gate-shut c (c .ended) now (end c reply.Closed) r e
+
+  pub gone-open : gateOf (c .ended) now ≡ gate.Open → step c (gone now) ≡ end c reply.Closed
+  unfolding step
+  gone-open e = gate-open c (c .ended) now (end c reply.Closed) e
 
 -- ---- tick
 
 module _ (c : Conn) (now : ℕ) where
   pub tick-shut : (r : Reply) → gateOf (c .ended) now ≡ gate.Shut r → step c (tick now) ≡ refuse c r
   unfolding step
-  tick-shut r e = gate-shut c now (tickRules c now) r e
+  tick-shut r e = gate-shut c (c .ended) now (tickRules c now) r e
 
   pub tick-open : gateOf (c .ended) now ≡ gate.Open → step c (tick now) ≡ tickRules c now
   unfolding step
-  tick-open e = gate-open c now (tickRules c now) e
+  tick-open e = gate-open c (c .ended) now (tickRules c now) e
 
 pub tick-done : (r : Rtt) (now : ℕ) → onTick r now .answer .reply ≡ reply.Done
 unfolding onTick
@@ -60,17 +70,6 @@ module _ (c : Connection) (t l p : List ℕ) (v : Valid c t l p) where
   })
 
 -- ---- a stream put back
-
--- the own ids in the table stay below n where the new entry has the old one's id, and is in the table only if that was
-kept-below : (es : List Entry) (i : ℕ) (e : Entry) (m : Mode) (n : ℕ)
-    → ((j : ℕ) → entry es j .listed ≡ true → isOwn m (entry es j .stream .id) ≡ true → entry es j .stream .id .0 < n)
-    → (e .listed ≡ true → entry es i .listed ≡ true) → e .stream .id ≡ entry es i .stream .id
-    → (j : ℕ) → entry (set es i e) j .listed ≡ true → isOwn m (entry (set es i e) j .stream .id) ≡ true → entry (set es i e) j .stream .id .0 < n
-kept-below [] i e m n old li id j h o = old j h o
-kept-below (x ∷ es) zero e m n old li id zero h o = rw id (old zero (li h) (rw id at o))
-kept-below (x ∷ es) zero e m n old li id (suc j) h o = old (suc j) h o
-kept-below (x ∷ es) (suc i) e m n old li id zero h o = old zero h o
-kept-below (x ∷ es) (suc i) e m n old li id (suc j) h o = kept-below es i e m n (λ k. old (suc k)) li id j h o
 
 -- the answer of a call that leaves the memory m
 abbrev pub keptDone : Connection → Memory → Answer → Done
@@ -99,7 +98,7 @@ module _ (c : Connection) (t l p : List ℕ) (v : Valid c t l p) (i : ℕ) (s : 
       pool = moved .same .1 ∙ v .pool;
       fresh = record {
         parity = v .fresh .parity;
-        below = rw (moved .slots) (kept-below (slotsOf (c .memory) t l p) i _ (c .config .mode) (c .«next_id») (v .fresh .below) (f .listed) (f .id));
+        below = rw (moved .slots) (below-replaced (c .config .mode) (c .«next_id») (slotsOf (c .memory) t l p) i s listed _ f (v .fresh .below));
       };
     };
     after = rw (moved .slots);

@@ -26,13 +26,13 @@ use Rattle.handlers.specs.declared.Action.the-variants as action
 use Rattle.handlers.proofs.Locals.{write-performs}
 use Rattle.memory.proofs.Laws.{never}
 use Rattle.connection.specs.Abstract.{absOf, Valid}
-use Rattle.connection.specs.Promises.{Follows, Promised}
+use Rattle.connection.specs.Promises.{Follows, Promised, Gives}
 use Rattle.connection.specs.declared.Connection.{Connection}
 use Rattle.connection.specs.declared.Done.{Done}
 use Rattle.calls.specs.declared.Handle.the-variants.{Held, Refused}
-use Rattle.calls.specs.Given.{Gives, Carries}
+use Rattle.calls.specs.Given.{Carries}
 use Rattle.calls.specs.Parts.{handleOf, Keeps, Acts}
-use Rattle.calls.proofs.Promises.{refusing, following}
+use Rattle.connection.proofs.Promises.{refusing, following}
 use Rattle.calls.proofs.Handles.{store-performs, handle-refused, handle-held, at-row, row-follows}
 
 -- ---- the body

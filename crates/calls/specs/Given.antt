@@ -1,18 +1,13 @@
--- The sizes that a call tests, and what it puts into lent output.
+-- The sizes that a call tests, and the body of a write.
 use mathlib.Core.Path.{_≡_}
 use mathlib.Core.Bool.{Bool, true, false, cond}
 use mathlib.Core.List.{List}
 use Prim.Native.Nat.{ℕ}
-use lib.Dec.{eqb, ltb}
-use lib.ListN.{length}
-use Rattle.rules.specs.Replies.{mayGive}
+use lib.Dec.{eqb}
 use Rattle.rules.specs.Step.{step, write}
-use Rattle.stream.specs.declared.Sent.the-variants.{Nothing}
-use Rattle.rules.specs.declared.Reply.{Reply}
 use Rattle.table.specs.Table.{size}
 use Rattle.handlers.specs.Locals.{bodyOf}
 use Rattle.connection.specs.Abstract.{absOf, Valid}
-use Rattle.connection.specs.Promises.{sentAfter}
 use Rattle.connection.specs.declared.Connection.{Connection}
 use Rattle.connection.specs.declared.Done.{Done}
 
@@ -23,11 +18,6 @@ tableSized c n = eqb n (size (c .memory .slots))
 -- the same, with room for a header of twelve bytes
 abbrev pub sentSized : Connection → ℕ → ℕ → Bool
 sentSized c n s = cond (tableSized c n) (eqb s 12) false
-
--- 01: "Lent output changes only in the bytes read and in the 12 of a header given; replies but 0, 1 and 2 give neither."
-pub record Gives (d : Done) (s s′ : List ℕ) : Type 0 where
-  pub header : s′ ≡ sentAfter (d .answer .sent) s
-  pub only : mayGive (d .answer .reply) ≡ false → (d .answer .sent ≡ Nothing) × (d .read ≡ 0)
 
 -- 01: "a Data frame carries the first n bytes": from a valid state the rule's body is the first bytes of `given`, as many as the
 -- header given counts

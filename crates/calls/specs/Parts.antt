@@ -1,6 +1,6 @@
 -- What the parts of the calls do.
 use mathlib.Core.Path.{_≡_}
-use mathlib.Core.Bool.{Bool, true, cond}
+use mathlib.Core.Bool.{Bool, cond}
 use mathlib.Core.List.{List}
 use Prim.Native.Nat.{ℕ, _<_}
 use lib.Dec.{ltb, leb}
@@ -9,7 +9,6 @@ use Rattle.rules.specs.Settings.{lastTime}
 use Rattle.rules.specs.State.{entry, withSlot}
 use Rattle.rules.specs.Ending.{gives}
 use Rattle.rules.specs.declared.Reply.the-variants as reply
-use Rattle.rules.specs.declared.Reply.{Reply}
 use Rattle.table.specs.Table.{rowAt}
 use Rattle.table.specs.declared.row.Row.{Row}
 use Rattle.handlers.specs.Perform.{outcomeOf}
@@ -20,17 +19,11 @@ use Rattle.handlers.specs.declared.Pong.{Pong}
 use Rattle.memory.specs.Slots.{slotsOf}
 use Rattle.memory.specs.Moves as memory
 use Rattle.connection.specs.Abstract.{absOf, Valid}
-use Rattle.connection.specs.Promises.{bareAnswer, refused, sentAfter, Ends, Follows}
+use Rattle.connection.specs.Promises.{refused, sentAfter, Follows}
 use Rattle.connection.specs.declared.Connection.{Connection}
 use Rattle.connection.specs.declared.Done.{Done}
 use Rattle.calls.specs.declared.Handle.{Handle}
 use Rattle.calls.specs.declared.Handle.the-variants.{Held, Refused}
-
--- 01: "connection ended"; the answer is the reply alone on any contents
-pub record Over (c : Connection) (t : List ℕ) (r : Reply) (d : Done) (t′ : List ℕ) : Type 0 where
-  pub answer : d .answer ≡ bareAnswer r true
-  pub read : d .read ≡ 0
-  pub ends : Ends c t r d t′
 
 -- the pings after a tick, and what it answers
 abbrev pub pinged : Connection → Pong → Done

@@ -5,9 +5,9 @@ ghost use Prim.Native.Nat.{ℕ};
 ghost use lib.ListN.{length};
 ghost use Rattle.rules.specs.Step.{gone, tick, write, close};
 ghost use Rattle.handlers.specs.Locals.{onTick};
-ghost use Rattle.connection.specs.Promises.{Promised, sentAfter};
-ghost use Rattle.calls.specs.Given.{tableSized, sentSized, Gives, Carries};
-ghost use Rattle.calls.specs.Parts.{Over, pinged, handleOf, Keeps, Acts};
+ghost use Rattle.connection.specs.Promises.{Promised, Gives, sentAfter};
+ghost use Rattle.calls.specs.Given.{tableSized, sentSized, Carries};
+ghost use Rattle.calls.specs.Parts.{pinged, handleOf, Keeps, Acts};
 use connection::Connection;
 use connection::Done;
 use connection::Gate;
@@ -25,20 +25,6 @@ enum Handle {
 }
 
 const LAST_TIME: u64 = 4611686018427387903;
-
-// Ends the connection.
-fn end(c: Connection, table: &mut [u64], reply: Reply) -> Done
-    ensures { λ r. ⌜ Over c (now (table .entry)) reply r (now (table .exit)) ⌝ }
-{
-    let done = connection::end(c, table, reply);
-    let after = done.connection;
-    let answer = connection::bare(reply, true);
-    Done {
-        connection: after,
-        answer,
-        read: 0,
-    }
-}
 
 // Whether a table of this length has its size.
 fn table_sized(c: Connection, len: usize) -> bool
@@ -238,6 +224,6 @@ pub fn peer_gone(c: Connection, table: &mut [u64], time: u64) -> Done
     let gate = connection::judge(c.ended, time);
     match gate {
         Gate::Shut(reply) => connection::refuse(c, reply),
-        Gate::Open => end(c, table, Reply::Closed),
+        Gate::Open => connection::end(c, table, Reply::Closed),
     }
 }

@@ -1,10 +1,10 @@
 -- What ending leaves of a valid connection. Assumes nothing.
 use mathlib.Core.Path.{_≡_, refl, sym, ap, _∙_}
-use mathlib.Core.Bool.{Bool, true, false}
+use mathlib.Core.Bool.{true, false}
 use mathlib.Core.List.{List, map}
 use Prim.Native.Nat.{ℕ}
 use lib.ListN.{List·getD-map}
-use Rattle.rules.specs.State.{Entry, Conn, entry, vacant}
+use Rattle.rules.specs.State.{Entry, entry, vacant}
 use Rattle.rules.specs.Ending.{end, endEntry}
 use Rattle.rules.specs.declared.Reply.{Reply}
 use Rattle.memory.specs.Moves as memory

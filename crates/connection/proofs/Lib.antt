@@ -1,2 +1,6 @@
 -- Laws that the proofs of the calls share.
+pub mod Promises
+pub mod Tests
+pub mod Ids
 pub mod Ending
+pub mod Unique

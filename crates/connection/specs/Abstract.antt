@@ -1,13 +1,9 @@
 -- The connection that code and lent memory stand for, and when they are valid: what every call leaves.
 use mathlib.Core.Path.{_≡_}
-use mathlib.Core.Bool.{Bool, true, false}
+use mathlib.Core.Bool.{true}
 use mathlib.Core.List.{List}
-use Prim.Native.Nat.{ℕ, _*_, _^_, _≤_, _<_}
-use Rattle.frame.specs.Header.{initialWindow}
-use Rattle.frame.specs.declared.header.StreamId.{StreamId}
-use Rattle.rules.specs.Settings.{lastTime}
+use Prim.Native.Nat.{ℕ, _<_}
 use Rattle.rules.specs.State.{Conn, entry, isOwn}
-use Rattle.rules.specs.declared.Config.{Config}
 use Rattle.memory.specs.Slots as memory
 use Rattle.connection.specs.declared.Connection.{Connection}
 

@@ -13,7 +13,7 @@ use Rattle.rules.specs.declared.Reply.the-variants as reply
 use Rattle.rules.specs.declared.Which.the-variants as which
 use Rattle.rules.specs.declared.Value.the-variants as value
 use Rattle.rules.specs.Settings.{lastTime}
-use Rattle.rules.specs.Replies.{Outcome, leavesAll}
+use Rattle.rules.specs.Replies.{Outcome, leavesAll, mayGive}
 use Rattle.rules.specs.Ending.{Result, end}
 use Rattle.rules.specs.Step.{Call, step}
 use Rattle.handlers.specs.declared.Answer.{Answer}
@@ -50,6 +50,11 @@ gateOf ended now = cond (ltb lastTime now) (gate.Shut reply.Time) (cond ended (g
 abbrev pub outAfter : List ℕ → List ℕ → List ℕ
 outAfter bytes out = bytes ++ drop (length bytes) out
 
+-- "Lent output changes only in the bytes read and in the 12 of a header given; replies but 0, 1 and 2 give neither."
+pub record Gives (d : Done) (s s′ : List ℕ) : Type 0 where
+  pub header : s′ ≡ sentAfter (d .answer .sent) s
+  pub only : mayGive (d .answer .reply) ≡ false → (d .answer .sent ≡ Nothing) × (d .read ≡ 0)
+
 -- the answer is the outcome's, but for bytes
 pub record Says (a : Answer) (o : Outcome) : Type 0 where
   pub reply : a .reply ≡ o .reply
@@ -68,6 +73,12 @@ pub record Follows (c : Connection) (t l p : List ℕ) (rule : Result) (d : Done
 -- "connection ended": what the rules' `end` says, from a valid state
 abbrev pub Ends : Connection → List ℕ → Reply → Done → List ℕ → Type 0
 Ends c t r d t′ = (l p : List ℕ) → Valid c t l p → Follows c t l p (end (absOf c t l p) r) d t′ l p
+
+-- the same, with an answer of the reply alone on any contents
+pub record Over (c : Connection) (t : List ℕ) (r : Reply) (d : Done) (t′ : List ℕ) : Type 0 where
+  pub answer : d .answer ≡ bareAnswer r true
+  pub read : d .read ≡ 0
+  pub ends : Ends c t r d t′
 
 -- What every call promises, `sized` saying whether all that is lent has its size: from a valid state it is the rules' step;
 -- a wrong size is 14, before all else; and a refusal leaves connection, table, links and pool as they were.

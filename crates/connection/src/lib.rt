@@ -1,6 +1,6 @@
 // The connection: what it holds, and what its calls share. The calls themselves stand in the crates above.
 ghost use mathlib.Core.Path.{_≡_};
-ghost use Rattle.connection.specs.Promises.{bareAnswer, refused, gateOf, sentAfter, Ends};
+ghost use Rattle.connection.specs.Promises.{bareAnswer, refused, gateOf, sentAfter, Over};
 use frame::header;
 use handlers::Answer;
 use memory::Memory;
@@ -94,7 +94,7 @@ pub fn put(sent: &mut [u8], frame: Sent)
 
 // Ends the connection: every stream in the table is Closed and leaves it, and nobody waits any more.
 pub fn end(c: Connection, table: &mut [u64], reply: Reply) -> Done
-    ensures { λ r. ⌜ Ends c (now (table .entry)) reply r (now (table .exit)) ⌝ }
+    ensures { λ r. ⌜ Over c (now (table .entry)) reply r (now (table .exit)) ⌝ }
 {
     let config = c.config;
     let rtt = c.rtt;

@@ -1,19 +1,18 @@
 -- What a drop leaves of a valid connection. Assumes nothing.
 use mathlib.Core.Path.{_≡_, refl, sym, ap, _∙_}
-use mathlib.Core.Bool.{Bool, true, false, cond}
+use mathlib.Core.Bool.{true, false}
 use mathlib.Core.List.{List, [], append-nil}
 use Prim.Native.Nat.{ℕ, _<_}
 use native.Mathlib.Decide.{ℕ-discrete}
 use native.Mathlib.Omega.{arith}
-use lib.ListN.{length, set, length-set}
-use lib.Seq.{getD-set-same, getD-set-other, set-set}
+use lib.ListN.{set}
+use lib.Seq.{getD-set-other, set-set}
 use Rattle.stream.specs.Streams.{dropped}
 use Rattle.stream.specs.declared.Stream.{Stream}
 use Rattle.rules.specs.Lists.{Place, at, nowhere}
-use Rattle.rules.specs.State.{Entry, Conn, entry, vacant, find, isOwn, withSlots, withGrowth}
+use Rattle.rules.specs.State.{Entry, entry, vacant, find, withSlots, withGrowth}
 use Rattle.rules.specs.Ending.{Result, gives}
 use Rattle.rules.specs.Calls.{dropRules}
-use Rattle.rules.specs.declared.Mode.{Mode}
 use Rattle.rules.specs.declared.Reply.the-variants as reply
 use Rattle.rules.specs.declared.Slot.{Slot}
 use Rattle.table.specs.Table.{rowAt, foundOf, Finds}
@@ -23,34 +22,20 @@ use Rattle.table.specs.declared.Found.the-variants as found
 use Rattle.handlers.specs.Perform.{outcomeOf, perform}
 use Rattle.handlers.specs.Locals.{onDrop, tableAt, freed, growthReturned}
 use Rattle.handlers.specs.declared.Answer.{Answer}
-use Rattle.handlers.proofs.Locals.{drop-performs, drop-own}
+use Rattle.handlers.proofs.Locals.{drop-performs}
 use Rattle.memory.specs.Moves.{Moved, Frees}
 use Rattle.memory.specs.Moves as memory
 use Rattle.memory.specs.Slots.{slotsOf}
 use Rattle.memory.specs.Slots as slots
 use Rattle.memory.specs.declared.Memory.{Memory}
-use Rattle.memory.proofs.Laws.{never, slots-length, entry-of-held, entry-held, listed-held, find-slots, find-at}
-use Rattle.connection.specs.Abstract.{absOf, Valid, Fresh}
+use Rattle.memory.proofs.Laws.{never, entry-of-held, entry-held, listed-held, find-slots, find-at}
+use Rattle.connection.specs.Abstract.{absOf, Valid}
 use Rattle.connection.specs.Promises.{Follows}
 use Rattle.connection.specs.declared.Connection.{Connection}
 use Rattle.connection.specs.declared.Done.{Done}
+use Rattle.connection.proofs.Ids.{Below, below-out}
 use Rattle.dropping.specs.Parts.{released, Removes}
 use Rattle.dropping.specs.declared.Removed.{Removed}
-
--- ---- own ids in the table stay below a bound where a slot leaves the table
-
-abbrev Kept : Mode → ℕ → Entry → Type 0
-Kept mode n x = x .listed ≡ true → isOwn mode (x .stream .id) ≡ true → x .stream .id .0 < n
-
-abbrev Below : Mode → ℕ → List Entry → Type 0
-Below mode n es = (j : ℕ) → Kept mode n (entry es j)
-
-below-set : (mode : Mode) (n : ℕ) (es : List Entry) (i : ℕ) (e : Entry) → i < length es → e .listed ≡ false → Below mode n es → Below mode n (set es i e)
-below-set mode n es i e inside out old j = go (ℕ-discrete j i)
-  where
-    go : Dec (j ≡ i) → Kept mode n (entry (set es i e) j)
-    go (yes q) = let x : entry (set es i e) j ≡ e = rw q (getD-set-same es i e vacant inside) in rw x (λ h o. never (sym h ∙ out))
-    go (no q) = let x : entry (set es i e) j ≡ entry es j = getD-set-other es i j e vacant q in rw x (old j)
 
 -- ---- the answer is done, on any contents
 
@@ -73,9 +58,6 @@ module _ (c : Connection) (t l p : List ℕ) (v : Valid c t l p) (i : Slot) (bel
 
   abbrev rule : Place → Result
   rule q = let x = withGrowth (absOf c t l p) growth in freed (i .0) (perform x x [] (onDrop i (tableAt (absOf c t l p) q)))
-
-  within : (j : ℕ) → j < c .memory .slots → j < length es
-  within j h = omega (arith, slots-length (c .memory) t l p (v .memory))
 
   still-held : entry es (i .0) .held ≡ true
   still-held = entry-held (c .memory) t l p (v .memory) (i .0) below ∙ held
@@ -103,16 +85,15 @@ module _ (c : Connection) (t l p : List ℕ) (v : Valid c t l p) (i : Slot) (bel
         → Follows c t l p (gives (outcomeOf o) (withSlots (withGrowth (absOf c t l p) growth) (set es (i .0) vacant))) (released c growth m₂ o) t₂ l₂ p
     own-freed w =
         settled (set es (i .0) vacant) (w .valid) (w .slots) (w .same)
-        (below-set (c .config .mode) (c .«next_id») es (i .0) vacant (within (i .0) below) refl (v .fresh .below))
+        (below-out (c .config .mode) (c .«next_id») es (i .0) vacant refl (v .fresh .below))
 
     -- the stream at slot j leaves the table, and then the slot is freed
-    both-freed : (j : ℕ) (e : Entry) (m₁ : Memory) (t₁ : List ℕ) → j < c .memory .slots → e .listed ≡ false
+    both-freed : (j : ℕ) (e : Entry) (m₁ : Memory) (t₁ : List ℕ) → e .listed ≡ false
         → Moved (c .memory) t l p j e m₁ t₁ l p → Moved m₁ t₁ l p (i .0) vacant m₂ t₂ l₂ p
         → Follows c t l p (gives (outcomeOf o) (withSlots (withGrowth (absOf c t l p) growth) (set (set es j e) (i .0) vacant))) (released c growth m₂ o) t₂ l₂ p
-    both-freed j e m₁ t₁ h out w z =
-        let n : i .0 < length (set es j e) = omega (arith, length-set es j e, within (i .0) below) in
+    both-freed j e m₁ t₁ out w z =
         settled (set (set es j e) (i .0) vacant) (z .valid) (z .slots ∙ ap (λ (x : List Entry). set x (i .0) vacant) (w .slots)) (z .same .0 ∙ w .same .0, z .same .1 ∙ w .same .1)
-        (below-set (c .config .mode) (c .«next_id») (set es j e) (i .0) vacant n refl (below-set (c .config .mode) (c .«next_id») es j e (within j h) out (v .fresh .below)))
+        (below-out (c .config .mode) (c .«next_id») (set es j e) (i .0) vacant refl (below-out (c .config .mode) (c .«next_id») es j e out (v .fresh .below)))
 
   module _ (r : Removed) (t₁ : List ℕ) (m₂ : Memory) (t₂ l₂ : List ℕ) (frees : Frees (r .memory) t₁ l (i .0) (rowAt t₁ (r .memory .slots) (i .0)) m₂ t₂ l₂) where
     -- nothing was put
@@ -137,7 +118,7 @@ module _ (c : Connection) (t l p : List ℕ) (v : Valid c t l p) (i : Slot) (bel
         let held₁ : entry (slotsOf (r .memory) t₁ l p) (i .0) .held ≡ true =
         rw (a .slots, getD-set-other es j (i .0) _ vacant x) still-held in
         let z = frees p refl (a .valid) (omega (arith, a .same .0)) held₁ in
-        rw (w .0, s, append-nil) (both-freed m₂ t₂ l₂ _ j _ (r .memory) t₁ (h .0) refl a z)
+        rw (w .0, s, append-nil) (both-freed m₂ t₂ l₂ _ j _ (r .memory) t₁ refl a z)
 
     place-follows : (q : Place) → find es (row .stream .id) ≡ q → Removes (c .memory) t i (foundOf q) r t₁
         → Follows c t l p (rule q) (released c growth m₂ (r .answer)) t₂ l₂ p

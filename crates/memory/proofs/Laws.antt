@@ -69,7 +69,7 @@ unlisted r p e = go (r .listed) refl
     go true q = never (sym (p .held q) ∙ e)
     go false q = q
 
-both-true : (a b : Bool) → cond a b false ≡ true → (a ≡ true) × (b ≡ true)
+pub both-true : (a b : Bool) → cond a b false ≡ true → (a ≡ true) × (b ≡ true)
 both-true true b e = (refl, e)
 both-true false b e = never (sym e)
 

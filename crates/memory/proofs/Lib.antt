@@ -4,3 +4,4 @@ pub mod Laws
 pub mod Ranges
 pub mod Changes
 pub mod Ends
+pub mod Unique

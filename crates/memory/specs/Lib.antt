@@ -2,3 +2,4 @@
 pub mod Slots
 pub mod Counts
 pub mod Moves
+pub mod Unique

@@ -1,3 +1,4 @@
 -- Laws that the proofs of new and open share.
 pub mod Starting
 pub mod Opening
+pub mod Unique

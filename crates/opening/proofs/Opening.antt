@@ -2,49 +2,47 @@
 use mathlib.Core.Path.{_≡_, refl, sym, ap, _∙_}
 use mathlib.Core.Bool.{Bool, true, false, cond}
 use mathlib.Core.List.{List, []}
-use Prim.Native.Nat.{ℕ, _+_, _%_, _≤_, _<_}
-use native.Mathlib.Decide.{ℕ-discrete}
+use Prim.Native.Nat.{ℕ, _+_, _%_}
 use native.Mathlib.Omega.{arith}
 use borrow.Author.Tests.{eqb-true, eq-eqb}
 use lib.Dec.{eqb, ltb, leb}
-use lib.ListN.{length, set}
-use lib.Seq.{getD-set-same, getD-set-other}
+use lib.ListN.{set}
 use Rattle.frame.specs.declared.header.StreamId.{StreamId}
 use Rattle.flow_control.specs.Windows.{top}
 use Rattle.stream.specs.declared.Stream.{Stream}
 use Rattle.rules.specs.Lists.{Place, at, nowhere}
 use Rattle.rules.specs.State.{Entry, Conn, entry, vacant, isOwn, hasId, find}
 use Rattle.rules.specs.State as rules
-use Rattle.rules.specs.Settings.{lastTime}
-use Rattle.rules.specs.Ending.{refuse, end}
 use Rattle.rules.specs.Frames.{newEntry}
 use Rattle.rules.specs.Calls.{open-rules}
-use Rattle.rules.specs.Step.{step, timed, live, open-stream}
+use Rattle.rules.specs.Step.{step}
 use Rattle.rules.specs.declared.Mode.{Mode}
 use Rattle.rules.specs.declared.Mode.the-variants.{Client, Server}
 use Rattle.rules.specs.declared.Reply.{Reply}
 use Rattle.rules.specs.declared.Reply.the-variants as reply
 use Rattle.rules.specs.declared.Slot.{Slot}
 use Rattle.table.specs.Table.{lowestFree, unacknowledged, foundOf}
-use Rattle.table.proofs.Lists.{first-nowhere, false-of}
+use Rattle.rules.proofs.Lists.{first-nowhere}
+use Rattle.table.proofs.Lists.{false-of}
 use Rattle.handlers.specs.Locals.{openWith, openAction, performOpen}
 use Rattle.handlers.specs.Perform.{vacancyOf}
-use Rattle.handlers.specs.declared.Opening.{Opening}
 use Rattle.handlers.specs.declared.Opening.the-variants as opening
 use Rattle.handlers.specs.declared.NextId.the-variants as next
 use Rattle.handlers.proofs.Locals.{open-performs}
 use Rattle.memory.specs.Moves.{Makes}
 use Rattle.memory.specs.Slots.{slotsOf}
 use Rattle.memory.specs.declared.Memory.{Memory}
-use Rattle.memory.proofs.Laws.{never, slots-length, free-slots, free-at, listed-count, backlog}
+use Rattle.memory.proofs.Laws.{never, free-slots, free-at, listed-count, backlog}
 use Rattle.connection.specs.Abstract.{absOf, Valid, Fresh}
-use Rattle.connection.specs.Promises.{bareAnswer, refused, gateOf, Follows, Promised}
-use Rattle.rules.specs.Replies.{leavesAll}
+use Rattle.connection.specs.Promises.{bareAnswer, refused, gateOf, Follows, Over}
 use Rattle.connection.specs.declared.Connection.{Connection}
 use Rattle.connection.specs.declared.Done.{Done}
 use Rattle.connection.specs.declared.Gate.the-variants as gate
+use Rattle.connection.proofs.Promises.{refuse-follows}
+use Rattle.connection.proofs.Tests.{gate-shut, gate-open}
+use Rattle.connection.proofs.Ids.{Below, below-set}
 use Rattle.opening.specs.Open as specs
-use Rattle.opening.specs.Open.{Over, decided, opened, settled, Opens, Fits, Sound, Acts, Enters}
+use Rattle.opening.specs.Open.{decided, opened, settled, Opens, Fits, Sound, Acts, Enters}
 
 -- ---- the next id
 
@@ -74,27 +72,9 @@ next-new c f = first-nowhere (hasId (record { 0 = c .nextId })) (c .slots) vacan
 -- ---- what is done
 
 module _ (c : Connection) (t l p : List ℕ) where
-  refuse-follows : (r : Reply) → Valid c t l p → Follows c t l p (refuse (absOf c t l p) r) (refused c r) t l p
-  refuse-follows r v = record {
-    valid = v;
-    after = refl;
-    says = record { reply = refl; slot = refl; value = refl; sent = refl; wakes = refl };
-    read = refl;
-  }
-
-  -- an ended connection says the reply alone
-  pub over-follows : (r : Reply) (d : Done) (t′ : List ℕ) → Follows c t l p (end (absOf c t l p) r) d t′ l p
-      → Follows c t l p (end (absOf c t l p) r) (record { connection = d .connection; answer = bareAnswer r true; read = 0 }) t′ l p
-  over-follows r d t′ f = record {
-    valid = f .valid;
-    after = f .after;
-    says = record { reply = refl; slot = refl; value = refl; sent = refl; wakes = refl };
-    read = refl;
-  }
-
   pub refusing : (r : Reply) → Acts c t l p (opening.Refuse r) (refused c r) t l p
   unfolding performOpen
-  refusing r = record { steps = λ v f. refuse-follows r v; refuses = λ s e. (refl, refl, refl, refl) }
+  refusing r = record { steps = λ v f. refuse-follows c t l p r v; refuses = λ s e. (refl, refl, refl, refl) }
 
   pub ending : (r : Reply) (d : Done) (t′ : List ℕ) → Over c t r d t′ → Acts c t l p (opening.End r) d t′ l p
   unfolding performOpen
@@ -125,26 +105,11 @@ module _ (c : Connection) (t l p : List ℕ) where
     abbrev e : Entry
     e = newEntry s []
 
-    abbrev Kept : Entry → Type 0
-    Kept x = x .listed ≡ true → isOwn (c .config .mode) (x .stream .id) ≡ true → x .stream .id .0 < after
-
     -- the own ids are below the next one, the new stream's among them
-    below : Valid c t l p → Opens c t l p (i .0) s after → (j : ℕ) → entry (set es (i .0) e) j .listed ≡ true
-        → isOwn (c .config .mode) (entry (set es (i .0) e) j .stream .id) ≡ true → entry (set es (i .0) e) j .stream .id .0 < after
-    below v f j = go (ℕ-discrete j (i .0))
-      where
-        number : s .id .0 ≡ c .«next_id»
-        number = ap (λ (x : StreamId). x .0) (f .id)
-
-        new : Kept e
-        new h o = omega (arith, number, f .next)
-
-        old : Kept (entry es j)
-        old h o = omega (arith, v .fresh .below j h o, f .next)
-
-        go : Dec (j ≡ i .0) → Kept (entry (set es (i .0) e) j)
-        go (yes q) = let x : entry (set es (i .0) e) j ≡ e = rw q (getD-set-same es (i .0) e vacant (omega (arith, f .below, slots-length (c .memory) t l p (v .memory)))) in rw x new
-        go (no q) = let x : entry (set es (i .0) e) j ≡ entry es j = getD-set-other es (i .0) j e vacant q in rw x old
+    below : Valid c t l p → Opens c t l p (i .0) s after → Below (c .config .mode) after (set es (i .0) e)
+    below v f =
+        let number : s .id .0 ≡ c .«next_id» = ap (λ (x : StreamId). x .0) (f .id) in
+        below-set (c .config .mode) after es (i .0) e (λ h o. omega (arith, number, f .next)) (λ j h o. omega (arith, v .fresh .below j h o, f .next))
 
     pub making : Makes (c .memory) t l p (i .0) s [] m′ t′ l′ p′ → Acts c t l p (opening.New i s after) d t′ l′ p′
     unfolding performOpen
@@ -212,51 +177,16 @@ module _ (c : Connection) (t l p : List ℕ) (now : ℕ) where
 
   -- ---- the gate
 
-  gate-shut : (r : Reply) → gateOf (c .ended) now ≡ gate.Shut r → timed a now (live a (open-rules a now)) ≡ refuse a r
-  gate-shut r e = go (ltb lastTime now) (c .ended) e
-    where
-      go : (x y : Bool) → cond x (gate.Shut reply.Time) (cond y (gate.Shut reply.Closed) gate.Open) ≡ gate.Shut r
-          → cond x (refuse a reply.Time) (cond y (refuse a reply.Closed) (open-rules a now)) ≡ refuse a r
-      go true y h = let z : reply.Time ≡ r = cc in rw z
-      go false true h = let z : reply.Closed ≡ r = cc in rw z
-      go false false h = cc
-
-  gate-open : gateOf (c .ended) now ≡ gate.Open → timed a now (live a (open-rules a now)) ≡ open-rules a now
-  gate-open e = go (ltb lastTime now) (c .ended) e
-    where
-      go : (x y : Bool) → cond x (gate.Shut reply.Time) (cond y (gate.Shut reply.Closed) gate.Open) ≡ gate.Open
-          → cond x (refuse a reply.Time) (cond y (refuse a reply.Closed) (open-rules a now)) ≡ open-rules a now
-      go true y h = cc
-      go false true h = cc
-      go false false h = refl
-
   pub shut : (r : Reply) → gateOf (c .ended) now ≡ gate.Shut r → Enters c t l p now (refused c r) t l p
   unfolding step
   shut r e = record {
-    steps = λ v. rw (gate-shut r e) (refuse-follows c t l p r v);
+    steps = λ v. rw (gate-shut a (c .ended) now (open-rules a now) r e) (refuse-follows c t l p r v);
     refuses = λ q. (refl, refl, refl, refl);
   }
 
   pub entered : gateOf (c .ended) now ≡ gate.Open → (d : Done) (t′ l′ p′ : List ℕ) → Acts c t l p (decided c t now) d t′ l′ p′ → Enters c t l p now d t′ l′ p′
   unfolding step
   entered e d t′ l′ p′ acts = record {
-    steps = λ v. rw (gate-open e, open-performs a now, sym (decided-rules v)) (acts .steps v (fitting v));
+    steps = λ v. rw (gate-open a (c .ended) now (open-rules a now) e, open-performs a now, sym (decided-rules v)) (acts .steps v (fitting v));
     refuses = λ q. acts .refuses sound q;
-  }
-
--- ---- sizes
-
-module _ (sized : Bool) (c : Connection) (t l p : List ℕ) (now : ℕ) where
-  pub wrong-size : sized ≡ false → Promised sized c t l p (open-stream now) (refused c reply.Size) t l p
-  wrong-size e = record {
-    steps = λ s v. never (sym s ∙ e);
-    wrong = λ w. refl;
-    refuses = λ w. (refl, refl, refl, refl);
-  }
-
-  pub right-size : sized ≡ true → (d : Done) (t′ l′ p′ : List ℕ) → Enters c t l p now d t′ l′ p′ → Promised sized c t l p (open-stream now) d t′ l′ p′
-  right-size e d t′ l′ p′ x = record {
-    steps = λ s v. x .steps v;
-    wrong = λ w. never (sym e ∙ w);
-    refuses = x .refuses;
   }

@@ -1,15 +1,15 @@
 -- A connection made in memory that is laid out anew is valid, and in the rules' initial state. Assumes nothing.
 use mathlib.Core.Path.{_≡_, refl, sym, ap, _∙_}
-use mathlib.Core.Bool.{Bool, true, false, cond}
+use mathlib.Core.Bool.{Bool, true, false}
 use mathlib.Core.List.{List}
-use Prim.Native.Nat.{ℕ, zero, suc, _*_, _≤_, _<_, _^_}
+use Prim.Native.Nat.{ℕ, zero, suc, _*_}
 use native.Mathlib.Omega.{arith}
 use borrow.Author.Tests.{leb-true}
 use lib.Dec.{leb}
 use lib.ListN.{length, replicate}
 use Rattle.frame.specs.Header.{initialWindow}
 use Rattle.rules.specs.Settings.{lastTime, within, require, configOf, checkedLast, checked}
-use Rattle.rules.specs.State.{Entry, entry, vacant, firstOwn, initial, isOwn}
+use Rattle.rules.specs.State.{Entry, entry, vacant, firstOwn, isOwn}
 use Rattle.rules.specs.declared.Settings.{Settings}
 use Rattle.rules.specs.declared.Setting.{Setting}
 use Rattle.rules.specs.declared.Setting.the-variants as setting
@@ -21,8 +21,8 @@ use Rattle.rules.specs.declared.Mode.the-variants.{Client, Server}
 use Rattle.memory.specs.Moves.{Starts}
 use Rattle.memory.specs.Slots.{slotsOf, Sized}
 use Rattle.memory.specs.declared.Memory.{Memory}
-use Rattle.memory.proofs.Laws.{never, fits-sized}
-use Rattle.connection.specs.Abstract.{absOf, Valid, Fresh}
+use Rattle.memory.proofs.Laws.{never, both-true, fits-sized}
+use Rattle.connection.specs.Abstract.{absOf, Fresh}
 use Rattle.opening.specs.Start.{sized, started, Begins, Ranged, Lays, Creates}
 use Rattle.opening.specs.declared.Created.{Created}
 use Rattle.opening.specs.declared.Created.the-variants.{Made, Wrong, Size}
@@ -32,10 +32,6 @@ use Rattle.opening.specs.declared.Created.the-variants.{Made, Wrong, Siz
 passed : (b : Bool) (w : Setting) (next : Checked) (k : Config) → require b w next ≡ settings.Fine k → (b ≡ true) × (next ≡ settings.Fine k)
 passed true w next k e = (refl, e)
 passed false w next k e = never (let z : true ≡ false = cc in z)
-
-both-true : (a b : Bool) → cond a b false ≡ true → (a ≡ true) × (b ≡ true)
-both-true true b e = (refl, e)
-both-true false b e = never (sym e)
 
 last-ranged : (s : Settings) (k : Config) → checkedLast s ≡ settings.Fine k → Ranged k
 last-ranged s k e =
@@ -67,7 +63,7 @@ first-parity : (mode : Mode) → isOwn mode (record { 0 = firstOwn mode }) ≡ t
 first-parity Client = refl
 first-parity Server = refl
 
-entry-replicate : (n i : ℕ) → entry (replicate n vacant) i ≡ vacant
+pub entry-replicate : (n i : ℕ) → entry (replicate n vacant) i ≡ vacant
 entry-replicate zero i = refl
 entry-replicate (suc n) zero = refl
 entry-replicate (suc n) (suc i) = entry-replicate n i

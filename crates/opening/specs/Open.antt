@@ -8,7 +8,6 @@ use Rattle.stream.specs.declared.Sent.the-variants.{Nothing}
 use Rattle.rules.specs.Replies.{noWakes, leavesAll}
 use Rattle.rules.specs.State.{entry}
 use Rattle.rules.specs.Step.{step, open-stream}
-use Rattle.rules.specs.declared.Reply.{Reply}
 use Rattle.rules.specs.declared.Reply.the-variants as reply
 use Rattle.rules.specs.declared.Slot.{Slot}
 use Rattle.rules.specs.declared.Which.the-variants as which
@@ -25,14 +24,9 @@ use Rattle.handlers.specs.declared.Vacancy.the-variants as vacancy
 use Rattle.memory.specs.Slots.{slotsOf}
 use Rattle.memory.specs.declared.Memory.{Memory}
 use Rattle.connection.specs.Abstract.{absOf, Valid}
-use Rattle.connection.specs.Promises.{bareAnswer, Follows, Ends}
+use Rattle.connection.specs.Promises.{Follows}
 use Rattle.connection.specs.declared.Connection.{Connection}
 use Rattle.connection.specs.declared.Done.{Done}
-
--- "connection ended"; the answer is the reply alone on any contents
-pub record Over (c : Connection) (t : List ℕ) (r : Reply) (d : Done) (t′ : List ℕ) : Type 0 where
-  pub answer : d .answer ≡ bareAnswer r true
-  pub ends : Ends c t r d t′
 
 abbrev pub vacant : Found → Vacancy
 vacant (found.At s) = vacancy.At s

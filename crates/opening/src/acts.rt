@@ -1,6 +1,6 @@
 // What an open does to the connection and to lent memory.
 ghost use mathlib.Core.Path.{_≡_};
-ghost use Rattle.opening.specs.Open.{Over, vacant, decided, opened, settled, Acts};
+ghost use Rattle.opening.specs.Open.{vacant, decided, opened, settled, Acts};
 use connection::Connection;
 use connection::Done;
 use frame::header::StreamId;
@@ -15,20 +15,6 @@ use rules::Which;
 use rules::Woke;
 use stream::Sent;
 use table::Found;
-
-// Ends the connection.
-fn end(c: Connection, table: &mut [u64], reply: Reply) -> Done
-    ensures { λ r. ⌜ Over c (now (table .entry)) reply r (now (table .exit)) ⌝ }
-{
-    let done = connection::end(c, table, reply);
-    let after = done.connection;
-    let answer = connection::bare(reply, true);
-    Done {
-        connection: after,
-        answer,
-        read: 0,
-    }
-}
 
 fn vacant(found: Found) -> Vacancy
     ensures { λ r. ⌜ r ≡ vacant found ⌝ }
@@ -110,7 +96,7 @@ pub(crate) fn act(
 {
     let memory = c.memory;
     match opening {
-        Opening::End(reply) => end(c, table, reply),
+        Opening::End(reply) => connection::end(c, table, reply),
         Opening::Wait => {
             let answer = connection::bare(Reply::Wait, false);
             settled(c, c.next_id, true, memory, answer)

@@ -1,28 +1,27 @@
 -- How a read comes to its promise: by a wrong size, a refusal, with nothing to read, or by its rule. Assumes nothing.
-use mathlib.Core.Path.{_≡_, refl, sym, ap, _∙_}
-use mathlib.Core.Bool.{Bool, true, false, cond}
+use mathlib.Core.Path.{_≡_, refl, sym, ap}
+use mathlib.Core.Bool.{Bool, true, false}
 use mathlib.Core.List.{List}
 use Prim.Native.Nat.{ℕ, _≤_, _<_}
-use lib.Dec.{ltb}
+use native.Mathlib.Omega.{arith}
 use lib.ListN.{length, drop}
 use Rattle.stream.specs.declared.Sent.the-variants.{Nothing}
-use Rattle.rules.specs.Settings.{lastTime}
-use Rattle.rules.specs.State.{Entry, Conn, entry}
 use Rattle.rules.specs.Ending.{Result, gives, refuse}
-use Rattle.rules.specs.Step.{step, read, timed, holding}
+use Rattle.rules.specs.Step.{step, read, holding}
 use Rattle.rules.specs.declared.Reply.{Reply}
 use Rattle.rules.specs.declared.Reply.the-variants as reply
 use Rattle.table.specs.Table.{rowAt}
 use Rattle.handlers.specs.Perform.{outcomeOf}
 use Rattle.handlers.specs.Locals.{isShut, nothingRead}
-use Rattle.memory.specs.Slots.{slotsOf}
-use Rattle.memory.proofs.Laws.{never, entry-held, entry-beyond}
+use Rattle.memory.proofs.Laws.{never}
 use Rattle.connection.specs.Abstract.{absOf, Valid}
 use Rattle.connection.specs.Promises.{refused, gateOf, sentAfter, Promised}
 use Rattle.rules.specs.Replies.{leavesAll, mayGive}
 use Rattle.connection.specs.declared.Connection.{Connection}
 use Rattle.connection.specs.declared.Done.{Done}
 use Rattle.connection.specs.declared.Gate.the-variants as gate
+use Rattle.connection.proofs.Promises.{refuse-follows}
+use Rattle.connection.proofs.Tests.{gate-shut, gate-open, holding-beyond, holding-free, holding-held}
 use Rattle.reading.specs.Promises.{ruleOf, Reads, ReadsCall, Outputs}
 use Rattle.reading.proofs.Rows.{shut-rule}
 
@@ -32,17 +31,16 @@ module _ (c : Connection) (t l p out : List ℕ) where
   same-reads rule rule′ d t′ l′ out′ same r = record {
     steps = λ v. rw (same v) (r .steps v);
     refuses = r .refuses;
+    within = r .within;
     past = r .past;
     only = r .only;
   }
 
   pub refused-reads : (rule : Result) (r : Reply) → (Valid c t l p → rule ≡ refuse (absOf c t l p) r) → Reads rule c t l p out (refused c r) t l out
   refused-reads rule r same = same-reads (refuse (absOf c t l p) r) rule (refused c r) t l out same (record {
-    steps = λ v. (
-      record { valid = v; after = refl; says = record { reply = refl; slot = refl; value = refl; sent = refl; wakes = refl }; read = refl },
-      refl,
-    );
+    steps = λ v. (refuse-follows c t l p r v, refl);
     refuses = λ e. (refl, refl, refl);
+    within = omega arith;
     past = refl;
     only = λ e. (refl, refl);
   })
@@ -57,6 +55,7 @@ module _ (c : Connection) (t l p out : List ℕ) where
           refl,
         );
         refuses = λ e. never (sym e);
+        within = omega arith;
         past = refl;
         only = λ e. (refl, refl);
       })
@@ -67,43 +66,16 @@ module _ (c : Connection) (t l p out : List ℕ) where
     abbrev next : Result
     next = ruleOf (absOf c t l p) i (length out) time
 
-    free-rule : entry (slotsOf (c .memory) t l p) i .held ≡ false → holding (absOf c t l p) i next ≡ refuse (absOf c t l p) reply.NotHeld
-    free-rule e = rw e
-
     pub beyond-reads : c .memory .slots ≤ i → Reads (holding (absOf c t l p) i next) c t l p out (refused c reply.NotHeld) t l out
-    beyond-reads h =
-        refused-reads (holding (absOf c t l p) i next) reply.NotHeld
-        (λ v. free-rule (ap (λ (e : Entry). e .held) (entry-beyond (c .memory) t l p (v .memory) i h)))
+    beyond-reads h = refused-reads (holding (absOf c t l p) i next) reply.NotHeld (λ v. holding-beyond c t l p v i next h)
 
     pub free-reads : i < c .memory .slots → rowAt t (c .memory .slots) i .held ≡ false
         → Reads (holding (absOf c t l p) i next) c t l p out (refused c reply.NotHeld) t l out
-    free-reads h e =
-        refused-reads (holding (absOf c t l p) i next) reply.NotHeld
-        (λ v. free-rule (entry-held (c .memory) t l p (v .memory) i h ∙ e))
+    free-reads h e = refused-reads (holding (absOf c t l p) i next) reply.NotHeld (λ v. holding-free c t l p v i next h e)
 
     pub held-reads : i < c .memory .slots → rowAt t (c .memory .slots) i .held ≡ true → (d : Done) (t′ l′ out′ : List ℕ)
         → Reads next c t l p out d t′ l′ out′ → Reads (holding (absOf c t l p) i next) c t l p out d t′ l′ out′
-    held-reads h e d t′ l′ out′ = same-reads next (holding (absOf c t l p) i next) d t′ l′ out′ (λ v. held-rule (entry-held (c .memory) t l p (v .memory) i h ∙ e))
-      where
-        held-rule : entry (slotsOf (c .memory) t l p) i .held ≡ true → holding (absOf c t l p) i next ≡ next
-        held-rule q = rw q
-
--- ---- the time
-
-module _ (x : Conn) (time : ℕ) (next : Result) where
-  time-shut : (r : Reply) → gateOf false time ≡ gate.Shut r → timed x time next ≡ refuse x r
-  time-shut r e = go (ltb lastTime time) e
-    where
-      go : (a : Bool) → cond a (gate.Shut reply.Time) gate.Open ≡ gate.Shut r → cond a (refuse x reply.Time) next ≡ refuse x r
-      go true h = let z : reply.Time ≡ r = cc in rw z
-      go false h = cc
-
-  time-open : gateOf false time ≡ gate.Open → timed x time next ≡ next
-  time-open e = go (ltb lastTime time) e
-    where
-      go : (a : Bool) → cond a (gate.Shut reply.Time) gate.Open ≡ gate.Open → cond a (refuse x reply.Time) next ≡ next
-      go true h = cc
-      go false h = refl
+    held-reads h e d t′ l′ out′ = same-reads next (holding (absOf c t l p) i next) d t′ l′ out′ (λ v. holding-held c t l p v i next h e)
 
 -- ---- the call
 
@@ -115,7 +87,7 @@ module _ (c : Connection) (t l p : List ℕ) (i : ℕ) (out : List ℕ) (time : 
   unfolding step
   shut-call r e = record {
     right = λ q. refused-reads c t l p out (step (absOf c t l p) (read time i (length out))) r
-        (λ v. time-shut (absOf c t l p) time (holding (absOf c t l p) i (ruleOf (absOf c t l p) i (length out) time)) r e);
+        (λ v. gate-shut (absOf c t l p) false time (holding (absOf c t l p) i (ruleOf (absOf c t l p) i (length out) time)) r e);
     wrong = λ q. never q;
   }
 
@@ -125,7 +97,7 @@ module _ (c : Connection) (t l p : List ℕ) (i : ℕ) (out : List ℕ) (time : 
   open-call e d t′ l′ out′ r =
       let rule = holding (absOf c t l p) i (ruleOf (absOf c t l p) i (length out) time) in
       record {
-        right = λ q. same-reads c t l p out rule (step (absOf c t l p) (read time i (length out))) d t′ l′ out′ (λ v. time-open (absOf c t l p) time rule e) r;
+        right = λ q. same-reads c t l p out rule (step (absOf c t l p) (read time i (length out))) d t′ l′ out′ (λ v. gate-open (absOf c t l p) false time rule e) r;
         wrong = λ q. never q;
       }
 
@@ -144,11 +116,16 @@ module _ (c : Connection) (t l p : List ℕ) (i : ℕ) (out : List ℕ) (time : 
     pub outputs : (sent sent′ : List ℕ) → sent′ ≡ sentAfter (d .answer .sent) sent → Outputs sized c t l p time i out sent d out′ sent′
     outputs sent sent′ h = record {
       bytes = λ e v. r .right e .steps v .1;
+      within = within sized refl;
       past = past sized refl;
       header = h;
       only = only sized refl;
     }
       where
+        within : (b : Bool) → sized ≡ b → d .read ≤ length out
+        within true e = r .right e .within
+        within false e = omega (arith, ap (λ (x : Done). x .read) (r .wrong e .size))
+
         past : (b : Bool) → sized ≡ b → drop (d .read) out′ ≡ drop (d .read) out
         past true e = r .right e .past
         past false e = ap (λ (xs : List ℕ). drop (d .read) xs) (r .wrong e .kept)

@@ -1,14 +1,12 @@
 -- The bytes that a read's step draws from a valid connection. Assumes nothing.
 use mathlib.Core.Path.{_≡_, refl, sym, _∙_}
-use mathlib.Core.Bool.{true, false}
+use mathlib.Core.Bool.{true}
 use mathlib.Core.List.{List, [], _++_, append-nil}
-use Prim.Native.Nat.{ℕ, min, _≤_, _<_}
-use native.Mathlib.Decide.{ℕ-discrete}
+use Prim.Native.Nat.{ℕ, min, _≤_}
 use native.Mathlib.Omega.{arith}
-use lib.ListN.{length, take, drop, set, drop-of-length-le}
-use lib.Seq.{getD-set-same, getD-set-other, length-take-le, drop-at}
-use Rattle.rules.specs.State.{Entry, entry, vacant, isOwn}
-use Rattle.rules.specs.declared.Reply.{Reply}
+use lib.ListN.{length, take, drop, drop-of-length-le}
+use lib.Seq.{length-take-le, drop-at}
+use Rattle.rules.specs.State.{Entry, entry}
 use Rattle.rules.specs.declared.Reply.the-variants as reply
 use Rattle.table.specs.declared.row.Row.{Row}
 use Rattle.handlers.specs.Locals.{performRead}
@@ -16,31 +14,15 @@ use Rattle.handlers.specs.declared.ReadStep.{ReadStep}
 use Rattle.memory.specs.Moves.{Drained, Drains}
 use Rattle.memory.specs.Slots.{slotsOf}
 use Rattle.memory.specs.declared.Memory.{Memory}
-use Rattle.memory.proofs.Laws.{never, slots-length}
+use Rattle.memory.proofs.Laws.{never}
 use Rattle.connection.specs.Abstract.{absOf, Valid, Fresh}
 use Rattle.connection.specs.Promises.{Follows}
-use Rattle.rules.specs.Replies.{leavesAll, mayGive}
+use Rattle.rules.specs.Replies.{mayGive}
 use Rattle.connection.specs.declared.Connection.{Connection}
 use Rattle.connection.specs.declared.Done.{Done}
+use Rattle.connection.proofs.Promises.{giving-leaves}
+use Rattle.connection.proofs.Ids.{below-replaced}
 use Rattle.reading.specs.Promises.{Reads, Draws}
-
--- a reply that may give bytes is no refusal
-giving-done : (r : Reply) → mayGive r ≡ true → leavesAll r ≡ false
-giving-done reply.Done h = refl
-giving-done reply.Wait h = refl
-giving-done reply.GoAway h = refl
-giving-done reply.TooManyStreams h = refl
-giving-done reply.NoMoreStreamIds h = refl
-giving-done reply.Closed h = refl
-giving-done reply.WriteClosed h = never (sym h)
-giving-done reply.NoSlot h = never (sym h)
-giving-done reply.NoRoom h = never (sym h)
-giving-done reply.NotHeld h = never (sym h)
-giving-done reply.Time h = never (sym h)
-giving-done reply.Version h = refl
-giving-done reply.Type h = refl
-giving-done reply.Body h = never (sym h)
-giving-done reply.Size h = never (sym h)
 
 -- ---- the bytes drawn
 
@@ -63,21 +45,6 @@ module _ (c : Connection) (t l p : List ℕ) (i : ℕ) (s : ReadStep) (m′ : Me
   abbrev es : List Entry
   es = slotsOf (c .memory) t l p
 
-  -- an own id in the table is below the next one
-  abbrev Kept : Entry → Type 0
-  Kept y = y .listed ≡ true → isOwn (c .config .mode) (y .stream .id) ≡ true → y .stream .id .0 < c .«next_id»
-
-  -- a stream that replaces one has an id that was in the table
-  below-set : Valid c t l p → (e : Entry) → i < length es → e .stream .id ≡ x .stream .id → e .listed ≡ x .listed → (j : ℕ) → Kept (entry (set es i e) j)
-  below-set v e inside id listed j = go (ℕ-discrete j i)
-    where
-      go : Dec (j ≡ i) → Kept (entry (set es i e) j)
-      go (yes q) =
-          let y : entry (set es i e) j ≡ e = rw q (getD-set-same es i e vacant inside) in
-          let k : Kept e = rw (id, listed) (v .fresh .below i) in
-          rw y k
-      go (no q) = let y : entry (set es i e) j ≡ entry es j = getD-set-other es i j e vacant q in rw y (v .fresh .below j)
-
   drawn-follows : Valid c t l p → (row : Row) → Draws c t l p i row s → (out : List ℕ) (out′ : List ℕ)
       → Drained (c .memory) t l p i (s .stream) out (s .count) m′ t′ l′ out′
       → Follows c t l p (performRead (absOf c t l p) (record { 0 = i }) x s) (taken c s m′) t′ l′ p
@@ -89,13 +56,10 @@ module _ (c : Connection) (t l p : List ℕ) (i : ℕ) (s : ReadStep) (m′ : Me
     read = sym (length-take-le (s .count) (x .bytes) (w .unread));
   }
     where
-      inside : i < length (slotsOf (c .memory) t l p)
-      inside = omega (arith, slots-length (c .memory) t l p (v .memory), w .below)
-
       fresh : Fresh (absOf (taken c s m′ .connection) t′ l′ p)
       fresh = record {
         parity = v .fresh .parity;
-        below = rw (d .moved .slots) (below-set v (record { held = true; listed = x .listed; stream = s .stream; bytes = drop (s .count) (x .bytes) }) inside (w .follows .id) refl);
+        below = rw (d .moved .slots) (below-replaced (c .config .mode) (c .«next_id») es i (s .stream) (x .listed) (drop (s .count) (x .bytes)) (w .follows) (v .fresh .below));
       }
 
   pub take-reads : (row : Row) → mayGive (s .answer .reply) ≡ true → (Valid c t l p → Draws c t l p i row s)
@@ -111,7 +75,8 @@ module _ (c : Connection) (t l p : List ℕ) (i : ℕ) (s : ReadStep) (m′ : Me
           drawn-follows v row w (take (s .count) out) o d,
           rw (d .gave, none, append-nil, length-take-le (s .count) (x .bytes) (w .unread)),
         );
-    refuses = λ e. never (sym e ∙ giving-done (s .answer .reply) gives);
+    refuses = λ e. never (sym e ∙ giving-leaves (s .answer .reply) gives);
+    within = room;
     past = drop-at o (drop (s .count) out) (s .count) (same ∙ front);
     only = λ e. never (sym gives ∙ e);
   }

@@ -2,3 +2,4 @@
 pub mod Draws
 pub mod Rows
 pub mod Calls
+pub mod Unique

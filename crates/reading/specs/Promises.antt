@@ -11,7 +11,6 @@ use Rattle.rules.specs.State.{Conn, entry}
 use Rattle.rules.specs.Ending.{Result}
 use Rattle.rules.specs.Calls.{readRules}
 use Rattle.rules.specs.Step.{step, read, holding}
-use Rattle.rules.specs.declared.Reply.{Reply}
 use Rattle.rules.specs.declared.Reply.the-variants as reply
 use Rattle.rules.specs.declared.Slot.{Slot}
 use Rattle.table.specs.Table.{rowAt}
@@ -34,6 +33,7 @@ sized c t l p sent = cond (fits (c .memory) t l p) (eqb sent 12) false
 -- 01: "Lent output changes only in the bytes read and in the 12 of a header given; replies but 0, 1 and 2 give neither."
 pub record Outputs (sized : Bool) (c : Connection) (t l p : List ℕ) (time i : ℕ) (out sent : List ℕ) (d : Done) (out′ sent′ : List ℕ) : Type 0 where
   pub bytes : sized ≡ true → Valid c t l p → out′ ≡ outAfter (step (absOf c t l p) (read time i (length out)) .outcome .bytes) out
+  pub within : d .read ≤ length out
   pub past : drop (d .read) out′ ≡ drop (d .read) out
   pub header : sent′ ≡ sentAfter (d .answer .sent) sent
   pub only : mayGive (d .answer .reply) ≡ false → (d .answer .sent ≡ Nothing) × (d .read ≡ 0)
@@ -44,6 +44,7 @@ pub record Outputs (sized : Bool) (c : Connection) (t l p : List ℕ) (time i : 
 pub record Reads (rule : Result) (c : Connection) (t l p out : List ℕ) (d : Done) (t′ l′ out′ : List ℕ) : Type 0 where
   pub steps : Valid c t l p → Follows c t l p rule d t′ l′ p × (out′ ≡ outAfter (rule .outcome .bytes) out)
   pub refuses : leavesAll (d .answer .reply) ≡ true → (d .connection ≡ c) × (t′ ≡ t) × (l′ ≡ l)
+  pub within : d .read ≤ length out
   pub past : drop (d .read) out′ ≡ drop (d .read) out
   pub only : mayGive (d .answer .reply) ≡ false → (d .answer .sent ≡ Nothing) × (d .read ≡ 0)
 

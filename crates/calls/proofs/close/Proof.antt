@@ -1,13 +1,11 @@
 -- `calls::close` meets its contract: the handle's tests are the rules' own, and behind them the stream is put back. Assumes nothing.
-use mathlib.Core.Path.{refl, sym, ap, _∙_}
+use mathlib.Core.Path.{sym, _∙_}
 use borrow.Author.Needs.{needs}
+use borrow.Author.Tests.{not-true, not-false}
 use Rattle.rules.specs.Step.{close}
 use Rattle.memory.proofs.Laws.{never}
-use Rattle.connection.specs.Abstract.{absOf}
 use Rattle.handlers.specs.Locals.{onClose}
-use Rattle.handlers.specs.declared.Action.{Action}
-use Rattle.calls.specs.Parts.{Acts}
-use Rattle.calls.proofs.Promises.{wrong-size, refusing, following, so, not-so}
+use Rattle.connection.proofs.Promises.{wrong-size, refusing, following, refused-gives}
 use Rattle.calls.proofs.Handles.{close-shut, close-follows}
 use Rattle.calls.proofs.close.Statement.{statement}
 use Rattle.calls.proofs.close.Tie as tie
@@ -22,8 +20,8 @@ returns : tie.Need-returns
 returns c =
     let a = c .before .before .before .before .before .args in
     rw (c .refuse .ensures) (
-      λ l p. wrong-size (a .c) (a .table .now) l p _ (close (a .time) (a .slot .0)) (sym (c .before .before .sent-sized .ensures) ∙ not-so _ (c .before .if1 .taken)),
-      record { header = refl; only = λ w. (refl, refl) },
+      λ l p. wrong-size (a .c) (a .table .now) l p _ (close (a .time) (a .slot .0)) (sym (c .before .before .sent-sized .ensures) ∙ not-true _ (c .before .if1 .taken)),
+      refused-gives _ _ _,
     )
 
 held-row-requires : tie.Need-held-row-requires
@@ -51,9 +49,9 @@ returns-2 : tie.Need-returns-2
 returns-2 c =
     let a = c .before .before .before .before .before .before .before .before .before .before .before .args in
     rw (c .refuse2 .ensures) (
-      λ l p. refusing (a .c) (a .table .now) l p _ (close (a .time) (a .slot .0)) (sym (c .before .before .before .before .before .before .before .before .sent-sized .ensures) ∙ so _ (c .before .before .before .before .before .before .before .if1 .left)) _
+      λ l p. refusing (a .c) (a .table .now) l p _ (close (a .time) (a .slot .0)) (sym (c .before .before .before .before .before .before .before .before .sent-sized .ensures) ∙ not-false _ (c .before .before .before .before .before .before .before .if1 .left)) _
           (λ v. close-shut (a .c) (a .table .now) l p v (a .slot .0) (a .time) _ (sym (c .before .before .before .before .held-row .ensures) ∙ c .before .before .found .given .1)),
-      record { header = refl; only = λ w. (refl, refl) },
+      refused-gives _ _ _,
     )
 
 same-length-2 : tie.Need-same-length-2
@@ -68,7 +66,7 @@ returns-3 c =
     let a = c .before .before .before .before .before .before .before .before .before .before .before .before .before .before .before .before .before .before .before .args in
     let e = c .before .before .before .before .act in
     let k = rw (c .before .before .before .before .before .before .before .on-close .ensures) at (e .ensures) in (
-      λ l p. following (a .c) (a .table .now) l p _ (close (a .time) (a .slot .0)) (sym (c .before .before .before .before .before .before .before .before .before .before .before .before .before .before .before .before .sent-sized .ensures) ∙ so _ (c .before .before .before .before .before .before .before .before .before .before .before .before .before .before .before .if1 .left)) (e .result) (e .last .1 .0) l p
+      λ l p. following (a .c) (a .table .now) l p _ (close (a .time) (a .slot .0)) (sym (c .before .before .before .before .before .before .before .before .before .before .before .before .before .before .before .before .sent-sized .ensures) ∙ not-false _ (c .before .before .before .before .before .before .before .before .before .before .before .before .before .before .before .if1 .left)) (e .result) (e .last .1 .0) l p
           (rw (k .0 .answer))
           (λ v. close-follows (a .c) (a .table .now) l p v (a .slot .0) (a .time) _ (sym (c .before .before .before .before .before .before .before .before .before .before .before .before .held-row .ensures) ∙ c .before .before .before .before .before .before .before .before .before .before .found2 .given .1) (e .result) (e .last .1 .0) (k .0)),
       record { header = rw (k .0 .answer) (k .1); only = rw (k .0 .answer) (λ w. never w) },

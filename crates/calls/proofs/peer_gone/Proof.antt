@@ -1,9 +1,11 @@
 -- `calls::peer_gone` meets its contract: the gate is the rules' own, and behind it stands the end. Assumes nothing.
-use mathlib.Core.Path.{refl, sym, _∙_}
+use mathlib.Core.Path.{sym, _∙_}
 use borrow.Author.Needs.{needs}
+use borrow.Author.Tests.{not-true, not-false}
 use Rattle.rules.specs.Step.{gone}
 use Rattle.connection.specs.Abstract.{absOf}
-use Rattle.calls.proofs.Promises.{wrong-size, refusing, following, gone-shut, gone-open, so, not-so}
+use Rattle.connection.proofs.Promises.{wrong-size, refusing, following}
+use Rattle.calls.proofs.Locals.{gone-shut, gone-open}
 use Rattle.calls.proofs.peer_gone.Statement.{statement}
 use Rattle.calls.proofs.peer_gone.Tie as tie
 
@@ -16,7 +18,7 @@ refuse-requires c κs = search needs
 returns : tie.Need-returns
 returns c l p =
     let a = c .before .before .before .before .args in
-    rw (c .refuse .ensures) (wrong-size (a .c) (a .table .now) l p _ (gone (a .time)) (sym (c .before .before .table-sized .ensures) ∙ not-so _ (c .before .if1 .taken)))
+    rw (c .refuse .ensures) (wrong-size (a .c) (a .table .now) l p _ (gone (a .time)) (sym (c .before .before .table-sized .ensures) ∙ not-true _ (c .before .if1 .taken)))
 
 judge-requires : tie.Need-judge-requires
 judge-requires c κs = search needs
@@ -36,7 +38,7 @@ end-requires c κs = search needs
 returns-2 : tie.Need-returns-2
 returns-2 c l p =
     let a = c .before .before .before .before .before .before .before .before .args in
-    rw (c .refuse2 .ensures) (refusing (a .c) (a .table .now) l p _ (gone (a .time)) (sym (c .before .before .before .before .before .before .table-sized .ensures) ∙ so _ (c .before .before .before .before .before .if1 .left)) _
+    rw (c .refuse2 .ensures) (refusing (a .c) (a .table .now) l p _ (gone (a .time)) (sym (c .before .before .before .before .before .before .table-sized .ensures) ∙ not-false _ (c .before .before .before .before .before .if1 .left)) _
     (λ v. gone-shut (absOf (a .c) (a .table .now) l p) (a .time) _ (sym (c .before .before .before .before .judge .ensures) ∙ c .before .before .gate .given .1)))
 
 same-length : tie.Need-same-length
@@ -46,7 +48,7 @@ returns-3 : tie.Need-returns-3
 returns-3 c l p =
     let a = c .before .before .before .before .before .before .before .before .before .before .args in
     let e = c .before .before .end in
-    following (a .c) (a .table .now) l p _ (gone (a .time)) (sym (c .before .before .before .before .before .before .before .before .table-sized .ensures) ∙ so _ (c .before .before .before .before .before .before .before .if1 .left)) (e .result) (e .last .1 .0) l p
+    following (a .c) (a .table .now) l p _ (gone (a .time)) (sym (c .before .before .before .before .before .before .before .before .table-sized .ensures) ∙ not-false _ (c .before .before .before .before .before .before .before .if1 .left)) (e .result) (e .last .1 .0) l p
     (rw (e .ensures .answer))
     (λ v. rw (gone-open (absOf (a .c) (a .table .now) l p) (a .time) (sym (c .before .before .before .before .before .before .judge .ensures) ∙ c .before .before .before .before .enum-told .given .1)) (e .ensures .ends l p v))
 

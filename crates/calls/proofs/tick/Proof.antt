@@ -1,11 +1,12 @@
 -- `calls::tick` meets its contract: the gate is the rules' own, and behind it stands the ping. Assumes nothing.
-use mathlib.Core.Path.{refl, sym, ap, _∙_}
+use mathlib.Core.Path.{sym, ap, _∙_}
 use borrow.Author.Needs.{needs}
+use borrow.Author.Tests.{not-true, not-false}
 use Rattle.rules.specs.Replies.{mayGive}
 use Rattle.rules.specs.Step.{tick}
 use Rattle.memory.proofs.Laws.{never}
 use Rattle.connection.specs.Abstract.{absOf}
-use Rattle.calls.proofs.Promises.{wrong-size, refusing, following, so, not-so}
+use Rattle.connection.proofs.Promises.{wrong-size, refusing, following, refused-gives}
 use Rattle.calls.proofs.Locals.{tick-shut, tick-open, tick-done, tick-follows}
 use Rattle.calls.proofs.tick.Statement.{statement}
 use Rattle.calls.proofs.tick.Tie as tie
@@ -20,8 +21,8 @@ returns : tie.Need-returns
 returns c =
     let a = c .before .before .before .before .before .args in
     rw (c .refuse .ensures) (
-      λ l p. wrong-size (a .c) (a .table .now) l p _ (tick (a .time)) (sym (c .before .before .sent-sized .ensures) ∙ not-so _ (c .before .if1 .taken)),
-      record { header = refl; only = λ w. (refl, refl) },
+      λ l p. wrong-size (a .c) (a .table .now) l p _ (tick (a .time)) (sym (c .before .before .sent-sized .ensures) ∙ not-true _ (c .before .if1 .taken)),
+      refused-gives _ _ _,
     )
 
 judge-requires : tie.Need-judge-requires
@@ -43,9 +44,9 @@ returns-2 : tie.Need-returns-2
 returns-2 c =
     let a = c .before .before .before .before .before .before .before .before .before .args in
     rw (c .refuse2 .ensures) (
-      λ l p. refusing (a .c) (a .table .now) l p _ (tick (a .time)) (sym (c .before .before .before .before .before .before .sent-sized .ensures) ∙ so _ (c .before .before .before .before .before .if1 .left)) _
+      λ l p. refusing (a .c) (a .table .now) l p _ (tick (a .time)) (sym (c .before .before .before .before .before .before .sent-sized .ensures) ∙ not-false _ (c .before .before .before .before .before .if1 .left)) _
           (λ v. tick-shut (absOf (a .c) (a .table .now) l p) (a .time) _ (sym (c .before .before .before .before .judge .ensures) ∙ c .before .before .gate .given .1)),
-      record { header = refl; only = λ w. (refl, refl) },
+      refused-gives _ _ _,
     )
 
 same-length : tie.Need-same-length
@@ -56,7 +57,7 @@ returns-3 c =
     let a = c .before .before .before .before .before .before .before .before .before .before .before .args in
     let e = c .before .before .ping in
     rw (e .ensures .0) (
-      λ l p. following (a .c) (a .table .now) l p _ (tick (a .time)) (sym (c .before .before .before .before .before .before .before .before .sent-sized .ensures) ∙ so _ (c .before .before .before .before .before .before .before .if1 .left)) _ (a .table .now) l p
+      λ l p. following (a .c) (a .table .now) l p _ (tick (a .time)) (sym (c .before .before .before .before .before .before .before .before .sent-sized .ensures) ∙ not-false _ (c .before .before .before .before .before .before .before .if1 .left)) _ (a .table .now) l p
           (rw (tick-done (a .c .rtt) (a .time)))
           (λ v. rw (tick-open (absOf (a .c) (a .table .now) l p) (a .time) (sym (c .before .before .before .before .before .before .judge .ensures) ∙ c .before .before .before .before .enum-told .given .1)) (tick-follows (a .c) (a .table .now) l p v (a .time))),
       record { header = e .ensures .1; only = λ w. never (sym (ap mayGive (tick-done (a .c .rtt) (a .time))) ∙ w) },

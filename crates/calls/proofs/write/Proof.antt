@@ -1,8 +1,9 @@
 -- `calls::write` meets its contract: the handle's tests are the rules' own, and behind them a refusal, or the stream put back. Assumes nothing.
-use mathlib.Core.Path.{refl, sym, _∙_}
+use mathlib.Core.Path.{sym, _∙_}
 use borrow.Author.Needs.{needs}
+use borrow.Author.Tests.{not-true, not-false}
 use Rattle.rules.specs.Step.{write}
-use Rattle.calls.proofs.Promises.{wrong-size, refusing, so, not-so}
+use Rattle.connection.proofs.Promises.{wrong-size, refusing, refused-gives}
 use Rattle.calls.proofs.Writes.{with-body, write-shut, write-acts}
 use Rattle.calls.proofs.write.Statement.{statement}
 use Rattle.calls.proofs.write.Tie as tie
@@ -17,8 +18,8 @@ returns : tie.Need-returns
 returns c =
     let a = c .before .before .before .before .before .before .args in
     rw (c .refuse .ensures) (with-body _ (a .c) (a .table .now) (a .time) (a .slot .0) (a .given .now) _ _ _ _
-    (λ l p. wrong-size (a .c) (a .table .now) l p _ (write (a .time) (a .slot .0) (a .given .now)) (sym (c .before .before .sent-sized .ensures) ∙ not-so _ (c .before .if1 .taken)))
-    (record { header = refl; only = λ w. (refl, refl) }))
+    (λ l p. wrong-size (a .c) (a .table .now) l p _ (write (a .time) (a .slot .0) (a .given .now)) (sym (c .before .before .sent-sized .ensures) ∙ not-true _ (c .before .if1 .taken)))
+    (refused-gives _ _ _))
 
 held-row-requires : tie.Need-held-row-requires
 held-row-requires c κs = search needs
@@ -45,9 +46,9 @@ returns-2 : tie.Need-returns-2
 returns-2 c =
     let a = c .before .before .before .before .before .before .before .before .before .before .before .before .args in
     rw (c .refuse2 .ensures) (with-body _ (a .c) (a .table .now) (a .time) (a .slot .0) (a .given .now) _ _ _ _
-    (λ l p. refusing (a .c) (a .table .now) l p _ (write (a .time) (a .slot .0) (a .given .now)) (sym (c .before .before .before .before .before .before .before .before .sent-sized .ensures) ∙ so _ (c .before .before .before .before .before .before .before .if1 .left)) _
+    (λ l p. refusing (a .c) (a .table .now) l p _ (write (a .time) (a .slot .0) (a .given .now)) (sym (c .before .before .before .before .before .before .before .before .sent-sized .ensures) ∙ not-false _ (c .before .before .before .before .before .before .before .if1 .left)) _
     (λ v. write-shut (a .c) (a .table .now) l p (a .slot .0) (a .time) (a .given .now) v _ (sym (c .before .before .before .before .held-row .ensures) ∙ c .before .before .found .given .1)))
-    (record { header = refl; only = λ w. (refl, refl) }))
+    (refused-gives _ _ _))
 
 same-length-2 : tie.Need-same-length-2
 same-length-2 c = search needs
@@ -61,7 +62,7 @@ returns-3 c =
     let e = c .before .before .before .before .act in
     write-acts (a .c) (a .table .now) (a .slot .0) (a .time) (a .given .now) _
     (sym (c .before .before .before .before .before .before .before .before .before .before .before .before .before .held-row .ensures) ∙ c .before .before .before .before .before .before .before .before .before .before .before .found2 .given .1) _
-    (sym (c .before .before .before .before .before .before .before .before .before .before .before .before .before .before .before .before .before .sent-sized .ensures) ∙ so _ (c .before .before .before .before .before .before .before .before .before .before .before .before .before .before .before .before .if1 .left))
+    (sym (c .before .before .before .before .before .before .before .before .before .before .before .before .before .before .before .before .before .sent-sized .ensures) ∙ not-false _ (c .before .before .before .before .before .before .before .before .before .before .before .before .before .before .before .before .if1 .left))
     (a .sent .now) (e .result) (e .last .1 .0) (e .last .1 .1 .0) (rw (c .before .before .before .before .before .before .before .on-write .ensures) at (e .ensures))
 
 pub write-spec : {M : Type 1} → statement M

@@ -1,4 +1,5 @@
 -- `connection::end` meets its contract: each return is what the definition gives by the tests that led there. Assumes nothing.
+use mathlib.Core.Path.{refl}
 use borrow.Author.Needs.{needs}
 use Rattle.connection.proofs.Ending.{end-follows}
 use Rattle.connection.proofs.end.Statement.{statement}
@@ -14,10 +15,14 @@ same-length : tie.Need-same-length
 same-length c = search needs
 
 returns : tie.Need-returns
-returns c l p v =
+returns c =
     let a = c .before .before .before .before .before .before .before .before .args in
     let e = c .before .before .before .end-all in
-    rw (c .bare .ensures) (end-follows (a .c) (a .table .now) l p v (e .result) (e .last .1 .0) (e .ensures l p (v .memory)) (a .reply))
+    rw (c .bare .ensures) (record {
+      answer = refl;
+      read = refl;
+      ends = λ l p v. end-follows (a .c) (a .table .now) l p v (e .result) (e .last .1 .0) (e .ensures l p (v .memory)) (a .reply);
+    })
 
 pub end-spec : {M : Type 1} → statement M
 end-spec = tie.close (tie.spec end-all-requires bare-requires same-length returns)

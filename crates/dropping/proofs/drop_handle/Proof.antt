@@ -1,8 +1,10 @@
 -- `dropping::drop_handle` meets its contract: sizes first, then the time, then the handle. Assumes nothing.
-use mathlib.Core.Path.{refl, sym, _∙_}
+use mathlib.Core.Path.{sym, _∙_}
 use borrow.Author.Needs.{needs}
 use borrow.Author.Tests.{not-true, not-false}
-use Rattle.dropping.proofs.Promises.{wrong-size, late, in-time}
+use Rattle.rules.specs.Step.{drop}
+use Rattle.connection.proofs.Promises.{wrong-size, refused-gives}
+use Rattle.dropping.proofs.Promises.{late, in-time}
 use Rattle.dropping.proofs.drop_handle.Statement.{statement}
 use Rattle.dropping.proofs.drop_handle.Tie as tie
 
@@ -16,8 +18,8 @@ returns : tie.Need-returns
 returns c =
     let a = c .before .before .before .before .before .before .args in
     rw (c .refuse .ensures) (
-      λ p. wrong-size _ (a .c) (a .table .now) (a .links .now) (a .slot) (a .time) p (sym (c .before .before .sized .ensures) ∙ not-true _ (c .before .if1 .taken)),
-      record { header = refl; only = λ w. (refl, refl) },
+      λ p. wrong-size (a .c) (a .table .now) (a .links .now) p _ (drop (a .time) (a .slot .0)) (sym (c .before .before .sized .ensures) ∙ not-true _ (c .before .if1 .taken)),
+      refused-gives _ _ _,
     )
 
 refuse-requires-2 : tie.Need-refuse-requires-2
@@ -27,8 +29,8 @@ returns-2 : tie.Need-returns-2
 returns-2 c =
     let a = c .before .before .before .before .before .before .before .args in
     rw (c .refuse2 .ensures) (
-      λ p. late _ (a .c) (a .table .now) (a .links .now) (a .slot) (a .time) p (sym (c .before .before .before .sized .ensures) ∙ not-false _ (c .before .before .if1 .left)) (c .before .if2 .taken),
-      record { header = refl; only = λ w. (refl, refl) },
+      λ p. late (a .c) (a .table .now) (a .links .now) p _ (a .slot) (a .time) (sym (c .before .before .before .sized .ensures) ∙ not-false _ (c .before .before .if1 .left)) (c .before .if2 .taken),
+      refused-gives _ _ _,
     )
 
 drop-held-requires : tie.Need-drop-held-requires
@@ -51,7 +53,7 @@ returns-3 c =
     let a = c .before .before .before .before .before .before .before .before .before .before .before .before .before .before .before .before .before .before .args in
     let k = c .before .before .before .before .before .before .before .before .before .drop-held in
     let right = sym (c .before .before .before .before .before .before .before .before .before .before .before .before .before .before .sized .ensures) ∙ not-false _ (c .before .before .before .before .before .before .before .before .before .before .before .before .before .if1 .left) in (
-      λ p. in-time _ (a .c) (a .table .now) (a .links .now) (a .slot) (a .time) p right (c .before .before .before .before .before .before .before .before .before .before .before .before .if2 .left) (k .result) (k .last .1 .0) (k .last .1 .1 .0) (k .ensures),
+      λ p. in-time (a .c) (a .table .now) (a .links .now) p _ (a .slot) (a .time) right (c .before .before .before .before .before .before .before .before .before .before .before .before .if2 .left) (k .result) (k .last .1 .0) (k .last .1 .1 .0) (k .ensures),
       record { header = c .before .before .put .ensures; only = k .ensures .only },
     )
 

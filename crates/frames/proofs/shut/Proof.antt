@@ -14,7 +14,7 @@ same-length : tie.Need-same-length
 same-length c = search needs
 
 returns : tie.Need-returns
-returns c = rw (c .bare .ensures) (λ ends l p. shut-handles _ _ l p _ (c .before .before .before .before .end .result) _ (c .before .before .before .before .end .ensures) ends)
+returns c = rw (c .bare .ensures) (λ ends l p. shut-handles _ _ l p _ (c .before .before .before .before .end .result) _ (c .before .before .before .before .end .ensures .ends) ends)
 
 pub shut-spec : {M : Type 1} → statement M
 shut-spec = tie.close (tie.spec end-requires bare-requires same-length returns)

@@ -1,7 +1,8 @@
 -- `opening::open` meets its contract: sizes first. Assumes nothing.
 use borrow.Author.Needs.{needs}
-use Rattle.opening.proofs.Opening.{wrong-size, right-size}
-use mathlib.Core.Path.{_≡_, sym, _∙_}
+use Rattle.rules.specs.Step.{open-stream}
+use Rattle.connection.proofs.Promises.{wrong-size, right-size}
+use mathlib.Core.Path.{sym, _∙_}
 use borrow.Author.Tests.{not-true, not-false}
 use Rattle.opening.proofs.open.Statement.{statement}
 use Rattle.opening.proofs.open.Tie as tie
@@ -15,7 +16,7 @@ refuse-requires c κs = search needs
 returns : tie.Need-returns
 returns c =
     let a = c .before .before .before .before .before .before .before .args in
-    rw (c .refuse .ensures) (wrong-size _ (a .c) (a .table .now) (a .links .now) (a .pool .now) (a .time) (sym (c .before .before .fits2 .ensures) ∙ not-true _ (c .before .if1 .taken)))
+    rw (c .refuse .ensures) (wrong-size (a .c) (a .table .now) (a .links .now) (a .pool .now) _ (open-stream (a .time)) (sym (c .before .before .fits2 .ensures) ∙ not-true _ (c .before .if1 .taken)))
 
 enter-requires : tie.Need-enter-requires
 enter-requires c κs = search needs
@@ -33,8 +34,8 @@ returns-2 : tie.Need-returns-2
 returns-2 c =
     let a = c .before .before .before .before .before .before .before .before .before .before .before .before .before .before .before .before .args in
     let m = c .before .before .before .before .before .before .enter in
-    right-size _ (a .c) (a .table .now) (a .links .now) (a .pool .now) (a .time) (sym (c .before .before .before .before .before .before .before .before .before .before .before .fits2 .ensures) ∙ not-false _ (c .before .before .before .before .before .before .before .before .before .before .if1 .left))
-    (m .result) (m .last .1 .0) (m .last .1 .1 .0) (m .last .1 .1 .1 .0) (m .ensures)
+    right-size (a .c) (a .table .now) (a .links .now) (a .pool .now) _ (open-stream (a .time)) (sym (c .before .before .before .before .before .before .before .before .before .before .before .fits2 .ensures) ∙ not-false _ (c .before .before .before .before .before .before .before .before .before .before .if1 .left))
+    (m .result) (m .last .1 .0) (m .last .1 .1 .0) (m .last .1 .1 .1 .0) (m .ensures .steps) (m .ensures .refuses)
 
 pub open-spec : {M : Type 1} → statement M
 open-spec =

@@ -1,0 +1,90 @@
+-- Two outcomes that meet one call's promise are the same. Assumes nothing.
+use mathlib.Core.Path.{_≡_, sym, ap, _∙_}
+use mathlib.Core.Bool.{Bool, true}
+use mathlib.Core.List.{List}
+use Prim.Native.Nat.{ℕ}
+use Rattle.chunks.specs.declared.Free.{Free}
+use Rattle.rules.specs.Ending.{Result}
+use Rattle.rules.specs.Replies.{Outcome, leavesAll}
+use Rattle.rules.specs.State.{Conn}
+use Rattle.rules.specs.Step.{Call, step}
+use Rattle.rules.specs.declared.Reply.the-variants as reply
+use Rattle.handlers.specs.declared.Answer.{Answer}
+use Rattle.memory.specs.Unique as memory
+use Rattle.memory.proofs.Unique as memories
+use Rattle.connection.specs.Abstract.{absOf, Valid}
+use Rattle.connection.specs.Promises.{sentAfter, Says, Follows, Promised}
+use Rattle.connection.specs.Unique.{withFree, Alike, Same, Equal, Unique}
+use Rattle.connection.specs.declared.Connection.{Connection}
+use Rattle.connection.specs.declared.Done.{Done}
+
+answers-same : (a b : Answer) (o : Outcome) → Says a o → Says b o → a ≡ b
+answers-same a b o x y = λ i. record {
+  reply = (x .reply ∙ sym (y .reply)) i;
+  slot = (x .slot ∙ sym (y .slot)) i;
+  value = (x .value ∙ sym (y .value)) i;
+  sent = (x .sent ∙ sym (y .sent)) i;
+  wakes = (x .wakes ∙ sym (y .wakes)) i;
+}
+
+-- ---- connections of one state
+
+module _ (c : Connection) (t l p : List ℕ) (v : Valid c t l p) (c′ : Connection) (t′ l′ p′ : List ℕ) (v′ : Valid c′ t′ l′ p′)
+    (same : absOf c t l p ≡ absOf c′ t′ l′ p′) where
+  memory-alike : memory.Alike (c .memory) t l p (c′ .memory) t′ l′ p′
+  memory-alike =
+      memories.alike (c .memory) t l p (v .memory) (c′ .memory) t′ l′ p′ (v′ .memory)
+      (v .pool ∙ ap (λ (x : Conn). x .config .pool) same ∙ sym (v′ .pool)) (ap (λ (x : Conn). x .slots) same)
+
+  fields-same : memory.Alike (c .memory) t l p (c′ .memory) t′ l′ p′ → (f : Free) → withFree c f ≡ withFree c′ f
+  fields-same m f = λ i. record {
+    config = same i .config;
+    rtt = same i .pings;
+    ended = same i .ended;
+    «next_id» = same i .nextId;
+    «open_wait» = same i .openWait;
+    growth = same i .growth;
+    memory = record { slots = m .slots i; pool = m .pool i; free = f; listed = m .listed i; unread = m .unread i };
+  }
+
+  pub alike : Alike c t l p c′ t′ l′ p′
+  alike = record { state = same; fields = fields-same memory-alike; memory = memory-alike }
+
+-- ---- outcomes of one rule
+
+module _ (c : Connection) (t l p : List ℕ) (rule : Result) (d : Done) (t₁ l₁ p₁ : List ℕ) (e : Done) (t₂ l₂ p₂ : List ℕ) where
+  follows-same : Follows c t l p rule d t₁ l₁ p₁ → Follows c t l p rule e t₂ l₂ p₂ → Same d t₁ l₁ p₁ e t₂ l₂ p₂
+  follows-same x y = record {
+    answer = answers-same (d .answer) (e .answer) (rule .outcome) (x .says) (y .says);
+    read = x .read ∙ sym (y .read);
+    alike = alike (d .connection) t₁ l₁ p₁ (x .valid) (e .connection) t₂ l₂ p₂ (y .valid) (x .after ∙ sym (y .after));
+  }
+
+-- ---- outcomes of one call
+
+module _ (sized : Bool) (c : Connection) (t l p : List ℕ) (call : Call) (d : Done) (t₁ l₁ p₁ : List ℕ) (e : Done) (t₂ l₂ p₂ : List ℕ)
+    (x : Promised sized c t l p call d t₁ l₁ p₁) (y : Promised sized c t l p call e t₂ l₂ p₂) where
+  -- what both leave as it was
+  left : d .answer ≡ e .answer → d .read ≡ e .read → leavesAll (d .answer .reply) ≡ true → Equal d t₁ l₁ p₁ e t₂ l₂ p₂
+  left answer read q =
+      let a = x .refuses q in
+      let b = y .refuses (rw answer at q) in
+      record { done = λ i. record { connection = (a .0 ∙ sym (b .0)) i; answer = answer i; read = read i }; table = a .1 ∙ sym (b .1); links = a .2 ∙ sym (b .2); pool = a .3 ∙ sym (b .3) }
+
+  steps : sized ≡ true → Valid c t l p → Same d t₁ l₁ p₁ e t₂ l₂ p₂
+  steps s v = follows-same c t l p (step (absOf c t l p) call) d t₁ l₁ p₁ e t₂ l₂ p₂ (x .steps s v) (y .steps s v)
+
+  pub unique : Unique sized c t l p d t₁ l₁ p₁ e t₂ l₂ p₂
+  unique = record {
+    steps = steps;
+    refuses = λ s v q. let z = steps s v in left (z .answer) (z .read) q;
+    wrong = λ w.
+        let z : d ≡ e = x .wrong w ∙ sym (y .wrong w) in
+        left (ap (λ (r : Done). r .answer) z) (ap (λ (r : Done). r .read) z) (rw (x .wrong w));
+  }
+
+-- ---- lent output
+
+-- one answer gives one header
+pub header-unique : (d e : Done) (s s₁ s₂ : List ℕ) → d .answer ≡ e .answer → s₁ ≡ sentAfter (d .answer .sent) s → s₂ ≡ sentAfter (e .answer .sent) s → s₁ ≡ s₂
+header-unique d e s s₁ s₂ same x y = x ∙ ap (λ (a : Answer). sentAfter (a .sent) s) same ∙ sym y

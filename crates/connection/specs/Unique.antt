@@ -1,0 +1,50 @@
+-- Two outcomes of one call, and what is the same of them. 01: "Reply, frame, bytes read, wakes, table and pool follow from the input".
+-- The one exception is where in the pool a queue's bytes lie: the block numbers in rows, links and the free chain, where in its first block a queue
+-- starts, and the pool's bytes that are not unread. The table's hints are beside it: no promise speaks of them, and no rule can see them.
+use mathlib.Core.Path.{_≡_}
+use mathlib.Core.Bool.{Bool, true, false}
+use mathlib.Core.List.{List}
+use Prim.Native.Nat.{ℕ}
+use Rattle.chunks.specs.declared.Free.{Free}
+use Rattle.rules.specs.Replies.{leavesAll}
+use Rattle.memory.specs.Unique as memory
+use Rattle.connection.specs.Abstract.{absOf, Valid}
+use Rattle.connection.specs.declared.Connection.{Connection}
+use Rattle.connection.specs.declared.Done.{Done}
+
+-- the connection with another chain of free blocks
+abbrev pub withFree : Connection → Free → Connection
+withFree c f = record {
+  config = c .config;
+  rtt = c .rtt;
+  ended = c .ended;
+  «next_id» = c .«next_id»;
+  «open_wait» = c .«open_wait»;
+  growth = c .growth;
+  memory = record { slots = c .memory .slots; pool = c .memory .pool; free = f; listed = c .memory .listed; unread = c .memory .unread };
+}
+
+-- two connections in their lent memory: one state, every field but the free chain, and every row but its blocks
+pub record Alike (c : Connection) (t l p : List ℕ) (c′ : Connection) (t′ l′ p′ : List ℕ) : Type 0 where
+  pub state : absOf c t l p ≡ absOf c′ t′ l′ p′
+  pub fields : (f : Free) → withFree c f ≡ withFree c′ f
+  pub memory : memory.Alike (c .memory) t l p (c′ .memory) t′ l′ p′
+
+-- the answers too
+pub record Same (d : Done) (t l p : List ℕ) (d′ : Done) (t′ l′ p′ : List ℕ) : Type 0 where
+  pub answer : d .answer ≡ d′ .answer
+  pub read : d .read ≡ d′ .read
+  pub alike : Alike (d .connection) t l p (d′ .connection) t′ l′ p′
+
+-- cell for cell
+pub record Equal (d : Done) (t l p : List ℕ) (d′ : Done) (t′ l′ p′ : List ℕ) : Type 0 where
+  pub done : d ≡ d′
+  pub table : t ≡ t′
+  pub links : l ≡ l′
+  pub pool : p ≡ p′
+
+-- From a valid state the outcomes are the same, and a refusal is cell for cell; so is a wrong size, from any state.
+pub record Unique (sized : Bool) (c : Connection) (t l p : List ℕ) (d : Done) (t₁ l₁ p₁ : List ℕ) (e : Done) (t₂ l₂ p₂ : List ℕ) : Type 0 where
+  pub steps : sized ≡ true → Valid c t l p → Same d t₁ l₁ p₁ e t₂ l₂ p₂
+  pub refuses : sized ≡ true → Valid c t l p → leavesAll (d .answer .reply) ≡ true → Equal d t₁ l₁ p₁ e t₂ l₂ p₂
+  pub wrong : sized ≡ false → Equal d t₁ l₁ p₁ e t₂ l₂ p₂
