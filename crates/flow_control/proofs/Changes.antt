@@ -81,6 +81,14 @@ pub record Told {M : Type 1} (𝓤 : URA M) (H : Heap 𝓤) (A : Atoms 𝓤) (N 
   pub owes : (f : FlowController) (n : N .row .Denot) → Is T.the-row f (mach f ∷ []) → Is (N .row) n (N .val n ∷ []) → Is row (make f n) (two (mach f) (N .val n) ∷ [])
   pub makes : Makes 𝓤 H A row (Is row)
 
+-- ---- the record itself
+module _ {M : Type 1} (𝓤 : URA M) (H : Heap 𝓤) (A : Atoms 𝓤) (W : Given 𝓤 H A) where
+  abbrev pub record-typed : (f : FlowController) → Is T.the-row f (mach f ∷ []) → Holds (hasTy T′.mir (mach f)) × WT (mach f)
+  record-typed f is = LL.lawful T.the-type T′.the-laws 𝓤 H A W .typed f _ is .0
+
+  abbrev pub record-made : Makes 𝓤 H A T.the-row (Is T.the-row)
+  record-made = LL.makes T.the-type T′.the-plain 𝓤 H A
+
 -- ---- one change, by its two contracts
 module _ {M : Type 1} (𝓤 : URA M) (H : Heap 𝓤) (A : Atoms 𝓤) (P N : Plain 𝓤 H A) (S : Told 𝓤 H A N) where
   abbrev pub valued : Ended

@@ -1,4 +1,4 @@
--- The window step as the record that is lent has it: the flow state apart from what is told of it.
+-- "The flow state is changed through one small mutable record": the window step as a lent record has it, the flow state apart from what is told of it.
 use Rattle.flow_control.specs.Windows.{nextWindowUpdate}
 use Rattle.flow_control.specs.declared.FlowController.{FlowController}
 use Rattle.flow_control.specs.declared.Stepped.{Stepped}

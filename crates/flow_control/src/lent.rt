@@ -33,6 +33,7 @@ pub struct Moved {
 }
 
 impl FlowController {
+    // The window step by value.
     fn moved(self, reading: Reading) -> Moved
         ensures { λ r. ⌜ r ≡ moved self reading ⌝ }
     {
@@ -56,33 +57,40 @@ impl FlowController {
         }
     }
 
-    // The credit due to the remote is taken into the window.
+    // The credit due to the remote is taken into the receive window, and what is granted is returned.
     pub fn next_window_update(&mut self, reading: Reading) -> Granted
-        ensures { λ r. ⌜ (now (self .exit) ≡ moved (now (self .entry)) reading .flow) × (r ≡ moved (now (self .entry)) reading .granted) ⌝ }
+        ensures { λ r. ⌜ (now (self .exit) ≡ moved (now (self .entry)) reading .flow)
+            × (r ≡ moved (now (self .entry)) reading .granted) ⌝ }
     {
         let moved = self.moved(reading);
         *self = moved.flow;
         moved.granted
     }
 
+    // The send window falls by i bytes.
     pub fn consume_send_window(&mut self, i: u32) -> Verdict
-        ensures { λ r. ⌜ (now (self .exit) ≡ consumeSend (now (self .entry)) i .flow) × (r ≡ consumeSend (now (self .entry)) i .verdict) ⌝ }
+        ensures { λ r. ⌜ (now (self .exit) ≡ consumeSend (now (self .entry)) i .flow)
+            × (r ≡ consumeSend (now (self .entry)) i .verdict) ⌝ }
     {
         let settled = self.send_consumed(i);
         *self = settled.flow;
         settled.verdict
     }
 
+    // The send window rises by a credit.
     pub fn increase_send_window_by(&mut self, i: Credit) -> Verdict
-        ensures { λ r. ⌜ (now (self .exit) ≡ increaseSend (now (self .entry)) i .flow) × (r ≡ increaseSend (now (self .entry)) i .verdict) ⌝ }
+        ensures { λ r. ⌜ (now (self .exit) ≡ increaseSend (now (self .entry)) i .flow)
+            × (r ≡ increaseSend (now (self .entry)) i .verdict) ⌝ }
     {
         let settled = self.send_increased(i);
         *self = settled.flow;
         settled.verdict
     }
 
+    // The receive window falls by i bytes.
     pub fn consume_receive_window(&mut self, i: u32) -> Verdict
-        ensures { λ r. ⌜ (now (self .exit) ≡ consumeReceive (now (self .entry)) i .flow) × (r ≡ consumeReceive (now (self .entry)) i .verdict) ⌝ }
+        ensures { λ r. ⌜ (now (self .exit) ≡ consumeReceive (now (self .entry)) i .flow)
+            × (r ≡ consumeReceive (now (self .entry)) i .verdict) ⌝ }
     {
         let settled = self.receive_consumed(i);
         *self = settled.flow;
@@ -90,7 +98,7 @@ impl FlowController {
     }
 }
 
-// The windows after n bytes are sent.
+// The windows after i bytes are sent.
 pub fn after_send(flow: FlowController, i: u32) -> Settled
     ensures { λ r. ⌜ r ≡ consumeSend flow i ⌝ }
 {
@@ -114,7 +122,7 @@ pub fn after_credit(flow: FlowController, i: Credit) -> Settled
     }
 }
 
-// The windows after a body of n bytes has come.
+// The windows after a body of i bytes has come.
 pub fn after_body(flow: FlowController, i: u32) -> Settled
     ensures { λ r. ⌜ r ≡ consumeReceive flow i ⌝ }
 {
@@ -126,6 +134,7 @@ pub fn after_body(flow: FlowController, i: u32) -> Settled
     }
 }
 
+// The window step on a record of its own.
 fn read(flow: FlowController, reading: Reading) -> Moved
     ensures { λ r. ⌜ r ≡ moved flow reading ⌝ }
 {
