@@ -6,7 +6,6 @@ use Rattle.frame.specs.Header.{initialWindow}
 use Rattle.rtt.specs.declared.RoundTrip.{RoundTrip}
 use Rattle.flow_control.specs.Windows.{budget, nextWindowUpdate}
 use Rattle.flow_control.specs.declared.FlowController.{FlowController}
-use Rattle.flow_control.specs.declared.Stepped.{Stepped}
 use Rattle.flow_control.proofs.Laws.{Fits, Steps, steps}
 use Rattle.demands.proofs.Invariant.{Flows}
 

@@ -16,7 +16,6 @@ use Rattle.flow_control.specs.declared.Pace.the-variants.{Unmeasured, La
 use Rattle.flow_control.specs.declared.Update.{Update}
 use Rattle.flow_control.specs.declared.Update.the-variants as update
 use Rattle.flow_control.specs.declared.Stepped.{Stepped}
-use Rattle.flow_control.specs.declared.Verdict.{Verdict}
 use Rattle.flow_control.specs.declared.Verdict.the-variants.{Done, InvalidWindowUpdate}
 use Rattle.flow_control.specs.declared.Settled.{Settled}
 
