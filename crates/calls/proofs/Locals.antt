@@ -21,6 +21,7 @@ use Rattle.handlers.proofs.Locals.{tick-performs}
 use Rattle.memory.specs.Moves as memory
 use Rattle.memory.specs.Slots.{slotsOf}
 use Rattle.memory.specs.declared.Memory.{Memory}
+use Rattle.memory.proofs.Starts.{nothing-advances}
 use Rattle.connection.specs.Abstract.{absOf, Valid}
 use Rattle.connection.specs.Promises.{gateOf, Follows}
 use Rattle.connection.specs.declared.Connection.{Connection}
@@ -65,6 +66,7 @@ module _ (c : Connection) (t l p : List ℕ) (v : Valid c t l p) where
   tick-follows now = rw (tick-performs (absOf c t l p) now) (record {
     valid = record { memory = v .memory; slots = v .slots; pool = v .pool; fresh = record { parity = v .fresh .parity; below = v .fresh .below } };
     after = refl;
+    advances = nothing-advances (c .memory) t l p (v .memory);
     says = record { reply = refl; slot = refl; value = refl; sent = refl; wakes = refl };
     read = refl;
   })
@@ -102,6 +104,7 @@ module _ (c : Connection) (t l p : List ℕ) (v : Valid c t l p) (i : ℕ) (s : 
       };
     };
     after = rw (moved .slots);
+    advances = moved .advances;
     says = record { reply = refl; slot = refl; value = refl; sent = refl; wakes = refl };
     read = refl;
   }

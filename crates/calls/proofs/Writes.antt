@@ -74,6 +74,7 @@ module _ (given : List ℕ) where
   carried c t l p r d t′ f = record {
     valid = f .valid;
     after = f .after;
+    advances = f .advances;
     says = record { reply = f .says .reply; slot = f .says .slot; value = f .says .value; sent = f .says .sent; wakes = f .says .wakes };
     read = f .read;
   }

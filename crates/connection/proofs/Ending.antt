@@ -38,6 +38,7 @@ module _ (c : Connection) (t l p : List ℕ) (v : Valid c t l p) (m : Memory) (t
   end-follows r = record {
     valid = record { memory = e .valid; slots = e .same .0 ∙ v .slots; pool = e .same .1 ∙ v .pool; fresh = fresh r };
     after = rw (e .slots);
+    advances = e .advances;
     says = record { reply = refl; slot = refl; value = refl; sent = refl; wakes = refl };
     read = refl;
   }

@@ -9,6 +9,7 @@ use Rattle.rules.specs.Step.{Call, step}
 use Rattle.rules.specs.declared.Reply.{Reply}
 use Rattle.rules.specs.declared.Reply.the-variants as reply
 use Rattle.memory.proofs.Laws.{never}
+use Rattle.memory.proofs.Starts.{nothing-advances}
 use Rattle.connection.specs.Abstract.{absOf, Valid}
 use Rattle.connection.specs.Promises.{refused, Gives, Follows, Promised}
 use Rattle.connection.specs.declared.Connection.{Connection}
@@ -41,6 +42,7 @@ module _ (c : Connection) (t l p : List ℕ) where
   refuse-follows r v = record {
     valid = v;
     after = refl;
+    advances = nothing-advances (c .memory) t l p (v .memory);
     says = record { reply = refl; slot = refl; value = refl; sent = refl; wakes = refl };
     read = refl;
   }

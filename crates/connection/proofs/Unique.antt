@@ -2,19 +2,22 @@
 use mathlib.Core.Path.{_≡_, sym, ap, _∙_}
 use mathlib.Core.Bool.{Bool, true}
 use mathlib.Core.List.{List}
-use Prim.Native.Nat.{ℕ}
-use Rattle.chunks.specs.declared.Free.{Free}
+use Prim.Native.Nat.{ℕ, _<_}
 use Rattle.rules.specs.Ending.{Result}
 use Rattle.rules.specs.Replies.{Outcome, leavesAll}
 use Rattle.rules.specs.State.{Conn}
 use Rattle.rules.specs.Step.{Call, step}
 use Rattle.rules.specs.declared.Reply.the-variants as reply
 use Rattle.handlers.specs.declared.Answer.{Answer}
+use Rattle.table.specs.Table.{rowAt}
+use Rattle.memory.specs.Moves.{Advances}
+use Rattle.memory.specs.Slots.{slotsOf}
 use Rattle.memory.specs.Unique as memory
+use Rattle.memory.specs.declared.Memory.{Memory}
 use Rattle.memory.proofs.Unique as memories
 use Rattle.connection.specs.Abstract.{absOf, Valid}
 use Rattle.connection.specs.Promises.{sentAfter, Says, Follows, Promised}
-use Rattle.connection.specs.Unique.{withFree, Alike, Same, Equal, Unique}
+use Rattle.connection.specs.Unique.{withHead, Alike, Same, Equal, Unique}
 use Rattle.connection.specs.declared.Connection.{Connection}
 use Rattle.connection.specs.declared.Done.{Done}
 
@@ -31,24 +34,32 @@ answers-same a b o x y = λ i. record {
 
 module _ (c : Connection) (t l p : List ℕ) (v : Valid c t l p) (c′ : Connection) (t′ l′ p′ : List ℕ) (v′ : Valid c′ t′ l′ p′)
     (same : absOf c t l p ≡ absOf c′ t′ l′ p′) where
-  memory-alike : memory.Alike (c .memory) t l p (c′ .memory) t′ l′ p′
-  memory-alike =
-      memories.alike (c .memory) t l p (v .memory) (c′ .memory) t′ l′ p′ (v′ .memory)
-      (v .pool ∙ ap (λ (x : Conn). x .config .pool) same ∙ sym (v′ .pool)) (ap (λ (x : Conn). x .slots) same)
+  pools : c .memory .pool ≡ c′ .memory .pool
+  pools = v .pool ∙ ap (λ (x : Conn). x .config .pool) same ∙ sym (v′ .pool)
 
-  fields-same : memory.Alike (c .memory) t l p (c′ .memory) t′ l′ p′ → (f : Free) → withFree c f ≡ withFree c′ f
-  fields-same m f = λ i. record {
+  slots : slotsOf (c .memory) t l p ≡ slotsOf (c′ .memory) t′ l′ p′
+  slots = ap (λ (x : Conn). x .slots) same
+
+  fields-same : memory.Alike (c .memory) t l p (c′ .memory) t′ l′ p′ → (b : ℕ) → withHead c b ≡ withHead c′ b
+  fields-same m b = λ i. record {
     config = same i .config;
     rtt = same i .pings;
     ended = same i .ended;
     «next_id» = same i .nextId;
     «open_wait» = same i .openWait;
     growth = same i .growth;
-    memory = record { slots = m .slots i; pool = m .pool i; free = f; listed = m .listed i; unread = m .unread i };
+    memory = record { slots = m .slots i; pool = m .pool i; free = record { head = b; count = m .free i }; listed = m .listed i; unread = m .unread i };
   }
 
-  pub alike : Alike c t l p c′ t′ l′ p′
-  alike = record { state = same; fields = fields-same memory-alike; memory = memory-alike }
+  -- whose queues start alike
+  pub alike : ((i : ℕ) → i < c .memory .slots → rowAt t (c .memory .slots) i .queue .from ≡ rowAt t′ (c′ .memory .slots) i .queue .from) → Alike c t l p c′ t′ l′ p′
+  alike from =
+      let m = memories.alike (c .memory) t l p (v .memory) (c′ .memory) t′ l′ p′ (v′ .memory) pools slots from in
+      record { state = same; fields = fields-same m; memory = m }
+
+  -- from one memory and table
+  advanced-alike : (m : Memory) (t₀ : List ℕ) → Advances m t₀ (c .memory) t → Advances m t₀ (c′ .memory) t′ → Alike c t l p c′ t′ l′ p′
+  advanced-alike m t₀ x y = alike (memories.from-same (c .memory) t l p (v .memory) (c′ .memory) t′ l′ p′ (v′ .memory) pools slots m t₀ x y)
 
 -- ---- outcomes of one rule
 
@@ -57,7 +68,9 @@ module _ (c : Connection) (t l p : List ℕ) (rule : Result) (d : Done) (t₁ l�
   follows-same x y = record {
     answer = answers-same (d .answer) (e .answer) (rule .outcome) (x .says) (y .says);
     read = x .read ∙ sym (y .read);
-    alike = alike (d .connection) t₁ l₁ p₁ (x .valid) (e .connection) t₂ l₂ p₂ (y .valid) (x .after ∙ sym (y .after));
+    alike =
+        advanced-alike (d .connection) t₁ l₁ p₁ (x .valid) (e .connection) t₂ l₂ p₂ (y .valid) (x .after ∙ sym (y .after)) (c .memory) t
+        (x .advances) (y .advances);
   }
 
 -- ---- outcomes of one call

@@ -17,6 +17,7 @@ use Rattle.rules.specs.Replies.{Outcome, leavesAll, mayGive}
 use Rattle.rules.specs.Ending.{Result, end}
 use Rattle.rules.specs.Step.{Call, step}
 use Rattle.handlers.specs.declared.Answer.{Answer}
+use Rattle.memory.specs.Moves.{Advances}
 use Rattle.connection.specs.Abstract.{absOf, Valid}
 use Rattle.connection.specs.declared.Connection.{Connection}
 use Rattle.connection.specs.declared.Done.{Done}
@@ -63,10 +64,11 @@ pub record Says (a : Answer) (o : Outcome) : Type 0 where
   pub sent : a .sent ≡ o .header
   pub wakes : a .wakes ≡ o .wakes
 
--- valid again, the state the rule's, and the answer the rule's
+-- valid again, the state the rule's, each queue past the bytes read of it, and the answer the rule's
 pub record Follows (c : Connection) (t l p : List ℕ) (rule : Result) (d : Done) (t′ l′ p′ : List ℕ) : Type 0 where
   pub valid : Valid (d .connection) t′ l′ p′
   pub after : absOf (d .connection) t′ l′ p′ ≡ rule .after
+  pub advances : Advances (c .memory) t (d .connection .memory) t′
   pub says : Says (d .answer) (rule .outcome)
   pub read : d .read ≡ length (rule .outcome .bytes)
 

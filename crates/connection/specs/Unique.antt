@@ -1,33 +1,38 @@
 -- Two outcomes of one call, and what is the same of them. 01: "Reply, frame, bytes read, wakes, table and pool follow from the input".
--- The one exception is where in the pool a queue's bytes lie: the block numbers in rows, links and the free chain, where in its first block a queue
--- starts, and the pool's bytes that are not unread. The table's hints are beside it: no promise speaks of them, and no rule can see them.
+-- The one exception is which blocks a queue has: the block numbers in rows, in links and in the free chain, and the pool's bytes that are not
+-- unread. The table's hints are beside it: no promise speaks of them, and no rule can see them.
 use mathlib.Core.Path.{_≡_}
 use mathlib.Core.Bool.{Bool, true, false}
 use mathlib.Core.List.{List}
 use Prim.Native.Nat.{ℕ}
-use Rattle.chunks.specs.declared.Free.{Free}
 use Rattle.rules.specs.Replies.{leavesAll}
 use Rattle.memory.specs.Unique as memory
 use Rattle.connection.specs.Abstract.{absOf, Valid}
 use Rattle.connection.specs.declared.Connection.{Connection}
 use Rattle.connection.specs.declared.Done.{Done}
 
--- the connection with another chain of free blocks
-abbrev pub withFree : Connection → Free → Connection
-withFree c f = record {
+-- the connection with another first free block
+abbrev pub withHead : Connection → ℕ → Connection
+withHead c b = record {
   config = c .config;
   rtt = c .rtt;
   ended = c .ended;
   «next_id» = c .«next_id»;
   «open_wait» = c .«open_wait»;
   growth = c .growth;
-  memory = record { slots = c .memory .slots; pool = c .memory .pool; free = f; listed = c .memory .listed; unread = c .memory .unread };
+  memory = record {
+    slots = c .memory .slots;
+    pool = c .memory .pool;
+    free = record { head = b; count = c .memory .free .count };
+    listed = c .memory .listed;
+    unread = c .memory .unread;
+  };
 }
 
--- two connections in their lent memory: one state, every field but the free chain, and every row but its blocks
+-- two connections in their lent memory: one state, every field but the first free block, and every row but its blocks
 pub record Alike (c : Connection) (t l p : List ℕ) (c′ : Connection) (t′ l′ p′ : List ℕ) : Type 0 where
   pub state : absOf c t l p ≡ absOf c′ t′ l′ p′
-  pub fields : (f : Free) → withFree c f ≡ withFree c′ f
+  pub fields : (b : ℕ) → withHead c b ≡ withHead c′ b
   pub memory : memory.Alike (c .memory) t l p (c′ .memory) t′ l′ p′
 
 -- the answers too

@@ -23,12 +23,13 @@ use Rattle.handlers.specs.Perform.{outcomeOf, perform}
 use Rattle.handlers.specs.Locals.{onDrop, tableAt, freed, growthReturned}
 use Rattle.handlers.specs.declared.Answer.{Answer}
 use Rattle.handlers.proofs.Locals.{drop-performs}
-use Rattle.memory.specs.Moves.{Moved, Frees}
+use Rattle.memory.specs.Moves.{Advances, Moved, Frees}
 use Rattle.memory.specs.Moves as memory
 use Rattle.memory.specs.Slots.{slotsOf}
 use Rattle.memory.specs.Slots as slots
 use Rattle.memory.specs.declared.Memory.{Memory}
 use Rattle.memory.proofs.Laws.{never, entry-of-held, entry-held, listed-held, find-slots, find-at}
+use Rattle.memory.proofs.Starts.{then-advances}
 use Rattle.connection.specs.Abstract.{absOf, Valid}
 use Rattle.connection.specs.Promises.{Follows}
 use Rattle.connection.specs.declared.Connection.{Connection}
@@ -71,11 +72,12 @@ module _ (c : Connection) (t l p : List ℕ) (v : Valid c t l p) (i : Slot) (bel
   module _ (m₂ : Memory) (t₂ l₂ : List ℕ) (o : Answer) where
     -- memory that holds the slots `after`, none of them newly in the table
     settled : (after : List Entry) → slots.Valid m₂ t₂ l₂ p → slotsOf m₂ t₂ l₂ p ≡ after → (m₂ .slots ≡ c .memory .slots) × (m₂ .pool ≡ c .memory .pool)
-        → Below (c .config .mode) (c .«next_id») after
+        → Advances (c .memory) t m₂ t₂ → Below (c .config .mode) (c .«next_id») after
         → Follows c t l p (gives (outcomeOf o) (withSlots (withGrowth (absOf c t l p) growth) after)) (released c growth m₂ o) t₂ l₂ p
-    settled after valid same sizes fresh = record {
+    settled after valid same sizes advances fresh = record {
       valid = record { memory = valid; slots = sizes .0 ∙ v .slots; pool = sizes .1 ∙ v .pool; fresh = record { parity = v .fresh .parity; below = rw same fresh } };
       after = rw same;
+      advances = advances;
       says = record { reply = refl; slot = refl; value = refl; sent = refl; wakes = refl };
       read = refl;
     }
@@ -84,15 +86,16 @@ module _ (c : Connection) (t l p : List ℕ) (v : Valid c t l p) (i : Slot) (bel
     own-freed : Moved (c .memory) t l p (i .0) vacant m₂ t₂ l₂ p
         → Follows c t l p (gives (outcomeOf o) (withSlots (withGrowth (absOf c t l p) growth) (set es (i .0) vacant))) (released c growth m₂ o) t₂ l₂ p
     own-freed w =
-        settled (set es (i .0) vacant) (w .valid) (w .slots) (w .same)
+        settled (set es (i .0) vacant) (w .valid) (w .slots) (w .same) (w .advances)
         (below-out (c .config .mode) (c .«next_id») es (i .0) vacant refl (v .fresh .below))
 
     -- the stream at slot j leaves the table, and then the slot is freed
-    both-freed : (j : ℕ) (e : Entry) (m₁ : Memory) (t₁ : List ℕ) → e .listed ≡ false
+    both-freed : (j : ℕ) (e : Entry) (m₁ : Memory) (t₁ : List ℕ) → e .listed ≡ false → e .bytes ≡ entry es j .bytes
         → Moved (c .memory) t l p j e m₁ t₁ l p → Moved m₁ t₁ l p (i .0) vacant m₂ t₂ l₂ p
         → Follows c t l p (gives (outcomeOf o) (withSlots (withGrowth (absOf c t l p) growth) (set (set es j e) (i .0) vacant))) (released c growth m₂ o) t₂ l₂ p
-    both-freed j e m₁ t₁ out w z =
+    both-freed j e m₁ t₁ out kept w z =
         settled (set (set es j e) (i .0) vacant) (z .valid) (z .slots ∙ ap (λ (x : List Entry). set x (i .0) vacant) (w .slots)) (z .same .0 ∙ w .same .0, z .same .1 ∙ w .same .1)
+        (then-advances (c .memory) t l p (v .memory) j e m₁ t₁ w kept m₂ t₂ (z .same .0) (z .advances))
         (below-out (c .config .mode) (c .«next_id») (set es j e) (i .0) vacant refl (below-out (c .config .mode) (c .«next_id») es j e out (v .fresh .below)))
 
   module _ (r : Removed) (t₁ : List ℕ) (m₂ : Memory) (t₂ l₂ : List ℕ) (frees : Frees (r .memory) t₁ l (i .0) (rowAt t₁ (r .memory .slots) (i .0)) m₂ t₂ l₂) where
@@ -118,7 +121,7 @@ module _ (c : Connection) (t l p : List ℕ) (v : Valid c t l p) (i : Slot) (bel
         let held₁ : entry (slotsOf (r .memory) t₁ l p) (i .0) .held ≡ true =
         rw (a .slots, getD-set-other es j (i .0) _ vacant x) still-held in
         let z = frees p refl (a .valid) (omega (arith, a .same .0)) held₁ in
-        rw (w .0, s, append-nil) (both-freed m₂ t₂ l₂ _ j _ (r .memory) t₁ refl a z)
+        rw (w .0, s, append-nil) (both-freed m₂ t₂ l₂ _ j _ (r .memory) t₁ refl refl a z)
 
     place-follows : (q : Place) → find es (row .stream .id) ≡ q → Removes (c .memory) t i (foundOf q) r t₁
         → Follows c t l p (rule q) (released c growth m₂ (r .answer)) t₂ l₂ p

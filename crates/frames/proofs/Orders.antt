@@ -36,6 +36,7 @@ use Rattle.handlers.proofs.Rules.{heardBy, ping-performs}
 use Rattle.memory.specs.Counts.{fits}
 use Rattle.memory.specs.Slots.{slotsOf}
 use Rattle.memory.proofs.Laws.{never, find-slots}
+use Rattle.memory.proofs.Starts.{nothing-advances}
 use Rattle.connection.specs.Abstract.{absOf, Valid}
 use Rattle.connection.specs.Promises.{refused, gateOf, Follows, Promised}
 use Rattle.connection.specs.declared.Connection.{Connection}
@@ -94,6 +95,7 @@ ping-handles c t h now f finds l p = record {
     pinged q v = record {
       valid = record { memory = v .memory; slots = v .slots; pool = v .pool; fresh = record { parity = v .fresh .parity; below = v .fresh .below } };
       after = refl;
+      advances = nothing-advances (c .memory) t l p (v .memory);
       says = record { reply = refl; slot = refl; value = refl; sent = refl; wakes = refl };
       read = refl;
     }

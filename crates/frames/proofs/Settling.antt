@@ -24,6 +24,7 @@ use Rattle.memory.specs.Moves.{Moved, held, Stores, Feeds, Makes}
 use Rattle.memory.specs.Slots.{slotsOf}
 use Rattle.memory.specs.declared.Memory.{Memory}
 use Rattle.memory.proofs.Laws.{never, slots-length}
+use Rattle.memory.proofs.Starts.{nothing-advances}
 use Rattle.connection.specs.Abstract.{absOf, Valid, Fresh}
 use Rattle.connection.specs.Promises.{refused, bareAnswer, Follows, Ends}
 use Rattle.rules.specs.Replies.{leavesAll, mayGive}
@@ -71,6 +72,7 @@ refused-handles c t l p r = record {
   steps = λ v. record {
     valid = v;
     after = refl;
+    advances = nothing-advances (c .memory) t l p (v .memory);
     says = record { reply = refl; slot = refl; value = refl; sent = refl; wakes = refl };
     read = refl;
   };
@@ -89,6 +91,7 @@ shut-handles c t l p r d t′ ends goes = record {
   steps = λ v. record {
     valid = ends l p v .valid;
     after = ends l p v .after;
+    advances = ends l p v .advances;
     says = record { reply = refl; slot = refl; value = refl; sent = refl; wakes = refl };
     read = refl;
   };
@@ -119,6 +122,7 @@ module _ (c : Connection) (t l p : List ℕ) (wait : Bool) (o : Answer) (m′ : 
   moved-follows i e v w below new = record {
     valid = record { memory = w .valid; slots = w .same .0 ∙ v .slots; pool = w .same .1 ∙ v .pool; fresh = fresh };
     after = rw (w .slots);
+    advances = w .advances;
     says = record { reply = refl; slot = refl; value = refl; sent = refl; wakes = refl };
     read = refl;
   }
@@ -149,6 +153,7 @@ module _ (c : Connection) (t l p : List ℕ) (wait : Bool) (o : Answer) (m′ : 
       follows v = rw (el, em, et, ep) (record {
         valid = record { memory = v .memory; slots = v .slots; pool = v .pool; fresh = record { parity = v .fresh .parity; below = v .fresh .below } };
         after = refl;
+        advances = nothing-advances (c .memory) t l p (v .memory);
         says = record { reply = refl; slot = refl; value = refl; sent = refl; wakes = refl };
         read = refl;
       })

@@ -8,13 +8,15 @@ use native.Mathlib.Omega.{arith}
 use borrow.Author.Tests.{eq-eqb}
 use lib.ListN.{length, drop, set}
 use lib.Seq.{getD-set-same, getD-set-other, set-getD}
-use Rattle.chunks.specs.Many.{Turned, contents, unreads}
+use Rattle.chunks.specs.Blocks.{blocksFor}
+use Rattle.chunks.specs.Many.{Turned, sizes, contents, unreads}
 use Rattle.chunks.specs.Many as many
 use Rattle.chunks.specs.Store.{content, none, Pushes, Pops, Discards}
 use Rattle.chunks.specs.declared.Free.{Free}
 use Rattle.chunks.specs.declared.Queue.{Queue}
 use Rattle.chunks.specs.declared.Pushed.{Pushed}
 use Rattle.chunks.specs.declared.Popped.{Popped}
+use Rattle.chunks.proofs.Many.{good-of, room-of}
 use Rattle.chunks.proofs.Shared.{push-shared, pop-shared, discard-shared, contents-set}
 use Rattle.frame.specs.declared.header.StreamId.{StreamId}
 use Rattle.rules.specs.Frames.{newEntry}
@@ -29,10 +31,11 @@ use Rattle.rules.proofs.Lists.{Says, first-says, sum-set, sum-at}
 use Rattle.table.proofs.Packing.{proper-rowOf}
 use Rattle.table.proofs.Searches.{distinct-set}
 use Rattle.memory.specs.Counts.{left, next, counted}
-use Rattle.memory.specs.Moves.{held, Moved, Follows, Drained}
+use Rattle.memory.specs.Moves.{startOf, held, Moved, Follows, Drained}
 use Rattle.memory.specs.Slots.{queues, entryOf, entries, slotsOf, Valid}
 use Rattle.memory.specs.declared.Memory.{Memory}
 use Rattle.memory.proofs.Lists.{queues-set, length-queues, nth-queues, length-contents, entries-set}
+use Rattle.memory.proofs.Starts.{advanced, stays, starts-low, queue-stays}
 use Rattle.memory.proofs.Laws.{never, entry-held, entry-of-held, entry-of-free, entry-listed, entry-unread, slots-length, listed-most}
 
 -- t′ is the table t with r at slot i
@@ -69,21 +72,25 @@ module _ (m : Memory) (t l p : List ℕ) (v : Valid m t l p) (i : ℕ) (below : 
   -- the slot's row is r, with the unread bytes b in its queue, and the counts are theirs
   module _ (r : Row) (b : List ℕ) (t′ l′ p′ : List ℕ) (f : Free) (listed unread : ℕ)
       (placed : Placed t K i r t′) (turned : Turned K (m .pool) l p (queues rs) i l′ p′ f (r .queue) b) (el : length l′ ≡ length l) (ep : length p′ ≡ length p)
-      (idle : r .held ≡ false → r .queue ≡ none) (distinct : Distinct (set rs i r))
+      (idle : r .held ≡ false → r .queue ≡ none) (advance : r .queue .from ≡ startOf (row .queue .from) (row .queue .unread) (r .queue .unread)) (distinct : Distinct (set rs i r))
       (counts : listed + one (row .listed) ≡ m .listed + one (r .listed)) (bytes : unread ≡ unreads (set (queues rs) i (r .queue))) (within : unread ≤ m .pool) where
     row-after : (j : ℕ) → j < K → rowAt t′ K j ≡ nth (set rs i r) j
     row-after j h = sym (nth-view t′ K j h) ∙ ap (λ (x : List Row). nth x j) (placed .rows)
 
-    idle-after : (j : ℕ) → j < K → rowAt t′ K j .held ≡ false → rowAt t′ K j .queue ≡ none
-    idle-after j h e = go (ℕ-discrete j i)
+    -- what holds of the row r, and of every row that stays, holds of each
+    each-after : (Q : ℕ → Row → Type 0) → Q i r → ((j : ℕ) → j < K → Q j (rowAt t K j)) → (j : ℕ) → j < K → Q j (rowAt t′ K j)
+    each-after Q new old j h = go (ℕ-discrete j i)
       where
-        go : Dec (j ≡ i) → rowAt t′ K j .queue ≡ none
+        go : Dec (j ≡ i) → Q j (rowAt t′ K j)
         go (yes z) =
             let a : rowAt t′ K j ≡ r = row-after j h ∙ ap (nth (set rs i r)) z ∙ getD-set-same rs i r blank here in
-            rw a (idle (rw a at e))
+            rw a (rw z new)
         go (no z) =
             let a : rowAt t′ K j ≡ rowAt t K j = row-after j h ∙ getD-set-other rs i j r blank z ∙ nth-view t K j h in
-            rw a (v .idle j h (rw a at e))
+            rw a (old j h)
+
+    at-start : r .queue .unread ≡ 0 → r .queue .from ≡ 0
+    at-start e = rw e at advance
 
     queues-after : queues (view t′ K) ≡ set (queues rs) i (r .queue)
     queues-after = ap queues (placed .rows) ∙ queues-set rs i r
@@ -100,7 +107,8 @@ module _ (m : Memory) (t l p : List ℕ) (v : Valid m t l p) (i : ℕ) (below : 
       };
       tied = placed .tied (v .tied);
       proper = λ j h. proper-row t′ K j;
-      idle = idle-after;
+      idle = each-after (λ j x. x .held ≡ false → x .queue ≡ none) idle (v .idle);
+      empty = each-after (λ j x. x .queue .unread ≡ 0 → x .queue .from ≡ 0) at-start (v .empty);
       distinct = rw (placed .rows) distinct;
       shared = rw queues-after (turned .shared);
       listed = rw (placed .rows) (omega (arith, v .listed, sum-set (λ (x : Row). one (x .listed)) rs i r blank here, ap (λ (x : Row). one (x .listed)) own-row));
@@ -117,7 +125,24 @@ module _ (m : Memory) (t l p : List ℕ) (v : Valid m t l p) (i : ℕ) (below : 
           ∙ ap (λ (x : List Row). entries x (set (contents l p (queues rs)) i b)) (placed .rows)
           ∙ entries-set rs (contents l p (queues rs)) i r b (length-contents l p (queues rs) ∙ length-queues rs);
       same = (refl, refl);
+      advances =
+          each-after (λ j x. x .queue .from ≡ startOf (rowAt t K j .queue .from) (rowAt t K j .queue .unread) (x .queue .unread))
+          (rw loaded at advance) (λ j h. queue-stays m t l p v j h (rowAt t K j .queue) refl);
     }
+
+  -- a push leaves where the queue starts
+  push-stays : (q : Queue) → row .queue ≡ q → (body l′ p′ : List ℕ) (r : Pushed) → m .unread + length body ≤ m .pool → Pushes l p (m .free) q body l′ p′ r
+      → r .queue .from ≡ startOf (row .queue .from) (row .queue .unread) (r .queue .unread)
+  push-stays q same body l′ p′ r room pushes =
+      let own : many.nth (queues rs) i ≡ q = own-queue ∙ same in
+      let at : i < length (queues rs) = omega (arith, length-queues rs, length-view t K) in
+      let fits : m .pool < 2 ^ 32 = v .sized .pooled in
+      let enough : blocksFor (length (queues rs)) (m .pool) ≤ m .free .count + sizes (queues rs) = omega (arith, v .shared .slots, v .shared .total) in
+      let w = pushes .0 (rw own at (good-of l p (m .free) (queues rs) (v .shared .sound) i at))
+      (rw own at (room-of l p (m .free) (queues rs) (v .shared .sound) i at (m .pool) (length body) fits (omega (arith, v .unread)) enough)) in
+      let from : r .queue .from ≡ row .queue .from = w .stays ∙ ap (λ (x : Queue). x .from) (sym same) in
+      let unread : r .queue .unread ≡ row .queue .unread + length body = w .grew ∙ ap (λ (x : Queue). x .unread + length body) (sym same) in
+      rw from (stays (row .queue .from) (row .queue .unread) (r .queue .unread) (rw loaded (starts-low m t l p v i below)) (rw loaded (v .empty i below)) (omega arith))
 
   -- a stream in the table is counted
   counted-in : row .listed ≡ true → 1 ≤ m .listed
@@ -161,12 +186,12 @@ module _ (m : Memory) (t l p : List ℕ) (v : Valid m t l p) (i : ℕ) (below : 
     -- its queue is q, with these bytes
     followed : (q : Queue) (bytes : List ℕ) (t′ l′ p′ : List ℕ) (f : Free) (listed unread : ℕ) → t′ ≡ stored t K i (next s b q) → Proper (next s b q)
         → Turned K (m .pool) l p (queues rs) i l′ p′ f q bytes → length l′ ≡ length l → length p′ ≡ length p
-        → listed ≡ left (m .listed) (row .listed) b → unread ≡ unreads (set (queues rs) i q) → unread ≤ m .pool
+        → q .from ≡ startOf (row .queue .from) (row .queue .unread) (q .unread) → listed ≡ left (m .listed) (row .listed) b → unread ≡ unreads (set (queues rs) i q) → unread ≤ m .pool
         → Moved m t l p i (held s b bytes) (counted m f listed unread) t′ l′ p′
-    followed q bytes t′ l′ p′ f listed unread et proper turned el ep e₁ e₂ within =
+    followed q bytes t′ l′ p′ f listed unread et proper turned el ep advance e₁ e₂ within =
         moved (next s b q) bytes t′ l′ p′ f listed unread
         (rw et (placed-stored t K i (next s b q) (v .sized .table) below proper)) turned el ep
-        (λ h. never h) (follow-distinct q) (rw e₁ (left-counts b follow-listed)) e₂ within
+        (λ h. never h) advance (follow-distinct q) (rw e₁ (left-counts b follow-listed)) e₂ within
 
     pub store-moves : (t′ : List ℕ) (listed : ℕ) → t′ ≡ stored t K i (next s b (row .queue)) → Proper (next s b (row .queue)) → listed ≡ left (m .listed) (row .listed) b
         → Moved m t l p i (held s b (old .bytes)) (counted m (m .free) listed (m .unread)) t′ l p
@@ -177,7 +202,7 @@ module _ (m : Memory) (t l p : List ℕ) (v : Valid m t l p) (i : ℕ) (below : 
           shared = rw same (v .shared);
           bytes = contents-set l p (queues rs) i (row .queue) ∙ ap (set (contents l p (queues rs)) i) (sym (ap (λ (e : Entry). e .bytes) was));
         })
-        refl refl e (rw same (v .unread)) (v .within)
+        refl refl (rw loaded (queue-stays m t l p v i below (rowAt t K i .queue) refl)) e (rw same (v .unread)) (v .within)
 
     pub feed-moves : (body t′ l′ p′ : List ℕ) (r : Pushed) (listed unread : ℕ) → m .unread + length body ≤ m .pool
         → Pushes l p (m .free) (row .queue) body l′ p′ r → length l′ ≡ length l → length p′ ≡ length p
@@ -187,9 +212,18 @@ module _ (m : Memory) (t l p : List ℕ) (v : Valid m t l p) (i : ℕ) (below : 
         let fits : m .pool < 2 ^ 32 = v .sized .pooled in
         let w = push-shared K (m .pool) l p (m .free) (queues rs) (v .shared) i below body l′ p′ r fits (omega (arith, v .unread)) (rw own-queue pushes) el in
         followed (r .queue) (old .bytes ++ body) t′ l′ p′ (r .free) listed unread et proper
-        (rw (← bytes-were) (w .0)) el ep e₁ (omega (arith, w .1, v .unread)) (omega arith)
+        (rw (← bytes-were) (w .0)) el ep (push-stays (row .queue) refl body l′ p′ r room pushes) e₁ (omega (arith, w .1, v .unread)) (omega arith)
 
   -- ---- a read
+
+  -- a pop leaves the queue past the bytes read
+  pop-advances : (out l′ out′ : List ℕ) (r : Popped) → Pops l p (m .free) (row .queue) out l′ out′ r
+      → r .queue .from ≡ startOf (row .queue .from) (row .queue .unread) (r .queue .unread)
+  pop-advances out l′ out′ r pops =
+      let at : i < length (queues rs) = omega (arith, length-queues rs, length-view t K) in
+      let w = pops .1 (rw own-queue at (good-of l p (m .free) (queues rs) (v .shared .sound) i at)) .1 in
+      advanced (row .queue .from) (row .queue .unread) (r .queue .unread) (r .count) (r .queue .from) (w .left)
+      (λ e. ap (λ (q : Queue). q .from) (pops .0 e)) (w .next)
 
   pub drain-moves : (s : Stream) → Follows old s (old .listed) → (out t′ l′ out′ : List ℕ) (r : Popped) (unread : ℕ)
       → Pops l p (m .free) (row .queue) out l′ out′ r → length l′ ≡ length l
@@ -206,7 +240,7 @@ module _ (m : Memory) (t l p : List ℕ) (v : Valid m t l p) (i : ℕ) (below : 
         moved =
             followed s (old .listed) follows (r .queue) (drop (r .count) (old .bytes)) t′ l′ p (r .free) (m .listed) unread
             (rw b et) (rw b proper) (rw (← bytes) (w .2)) el refl
-            (rw b (stays (row .listed))) (omega (arith, w .3, v .unread)) (omega (arith, v .within));
+            (pop-advances out l′ out′ r pops) (rw b (stays (row .listed))) (omega (arith, w .3, v .unread)) (omega (arith, v .within));
       }
     where
       stays : (b : Bool) → m .listed ≡ left (m .listed) b b
@@ -223,7 +257,7 @@ module _ (m : Memory) (t l p : List ℕ) (v : Valid m t l p) (i : ℕ) (below : 
       let w = discard-shared K (m .pool) l p (m .free) (queues rs) (v .shared) i below l′ f (rw own-queue discards) el in
       moved blank [] t′ l′ p f listed unread
       (rw et (placed-stored t K i blank (v .sized .table) below (proper-rowOf 0 []))) (w .0) el refl
-      (λ e. refl) (distinct-set rs i blank (v .distinct) (λ j b d e x y. never (sym e)))
+      (λ e. refl) refl (distinct-set rs i blank (v .distinct) (λ j b d e x y. never (sym e)))
       (rw e₁ (left-counts false (λ e. never (sym e))))
       (omega (arith, w .1, v .unread, ap (λ (q : Queue). q .unread) own-queue)) (omega (arith, v .within))
 
@@ -265,5 +299,5 @@ module _ (m : Memory) (t l p : List ℕ) (v : Valid m t l p) (i : ℕ) (below : 
         let w = push-shared K (m .pool) l p (m .free) (queues rs) (v .shared) i below body l′ p′ r fits (omega (arith, v .unread)) (rw no-queue pushes) el in
         moved (next s true (r .queue)) body t′ l′ p′ (r .free) listed unread
         (rw et (placed-inserted t K i (next s true (r .queue)) (v .sized .table) below proper)) (rw no-queue at (w .0)) el ep
-        (λ h. never h) (new-distinct s (r .queue) new)
+        (λ h. never h) (push-stays none (sym own-queue ∙ no-queue) body l′ p′ r room pushes) (new-distinct s (r .queue) new)
         (rw not-listed (omega (arith, listed-most m t l p v, v .sized .most))) (omega (arith, w .1, v .unread)) (omega arith)

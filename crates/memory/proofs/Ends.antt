@@ -20,6 +20,7 @@ use Rattle.memory.specs.Counts.{counted}
 use Rattle.memory.specs.Moves.{Ended, Starts}
 use Rattle.memory.specs.Slots.{queues, slotsOf, Sized, Valid}
 use Rattle.memory.specs.declared.Memory.{Memory}
+use Rattle.memory.proofs.Starts.{queue-stays}
 use Rattle.memory.proofs.Lists.{length-queues, queues-end, entries-end, entries-blank}
 
 -- ---- the end
@@ -55,6 +56,7 @@ module _ (m : Memory) (t l p : List ℕ) (v : Valid m t l p) (t′ : List ℕ) (
     tied = rw e (tied-ended t K (v .sized .table) (v .tied) K (omega arith));
     proper = λ i h. proper-row t′ K i;
     idle = λ i h x. rw (row-ended i h) (v .idle i h (rw (row-ended i h) at x));
+    empty = λ i h x. rw (row-ended i h) (v .empty i h (rw (row-ended i h) at x));
     distinct = distinct-none (view t′ K) (λ j h. let b : j < K = omega (arith, length-view t′ K) in rw (nth-view t′ K j b, row-ended j b) refl);
     shared = rw same-queues (v .shared);
     listed = rw rows (sym (ended-none (view t K)));
@@ -68,6 +70,7 @@ module _ (m : Memory) (t l p : List ℕ) (v : Valid m t l p) (t′ : List ℕ) (
     valid = valid-ended;
     slots = rw (same-queues, rows) (entries-end (view t K) (contents l p (queues (view t K))));
     same = (refl, refl);
+    advances = λ i h. rw (row-ended i h) (queue-stays m t l p v i h (rowAt t K i .queue) refl);
   }
 
 -- ---- the start
@@ -106,6 +109,7 @@ module _ (K P : ℕ) (f : Free) (t l : List ℕ) (n : ℕ) (e : t ≡ zeros n) (
           tied = rw (e, k) (tied-init K);
           proper = λ i h. proper-row t K i;
           idle = λ i h x. ap (λ (r : Row). r .queue) (row-start i h);
+          empty = λ i h x. ap (λ (r : Row). r .queue .from) (row-start i h);
           distinct = distinct-none (view t K) (λ j h. let b : j < K = omega (arith, length-view t K) in rw (nth-view t K j b, row-start j b) refl);
           shared =
               rw rows-start

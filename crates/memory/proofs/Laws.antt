@@ -227,8 +227,8 @@ module _ (m : Memory) (t l p : List ℕ) (v : Valid m t l p) where
       sum-same (λ (r : Row). one (rows.isUnacknowledged mode r)) (λ (e : Entry). one (rules.isUnacknowledged mode e)) rs (slotsOf m t l p) blank vacant as-many
       (pointwise (λ (r : Row). one (rows.isUnacknowledged mode r)) (λ (e : Entry). one (rules.isUnacknowledged mode e)) (λ r b. refl) (λ r e. rw e))
 
--- 01, "How much each contract says": the sizes and counts beside the slots follow from them. Which block numbers a queue has, and how
--- many blocks are free, does not.
+-- 01, "How much each contract says": the sizes and counts beside the slots follow from them. Which blocks a queue has, and how many
+-- are free, does not follow from them alone.
 pub counts-unique : (m : Memory) (t l p : List ℕ) → Valid m t l p → (m′ : Memory) (t′ l′ p′ : List ℕ) → Valid m′ t′ l′ p′ → slotsOf m t l p ≡ slotsOf m′ t′ l′ p′
     → (m .slots ≡ m′ .slots) × (m .listed ≡ m′ .listed) × (m .unread ≡ m′ .unread)
 counts-unique m t l p v m′ t′ l′ p′ v′ e = (

@@ -2,6 +2,7 @@
 pub mod Lists
 pub mod Laws
 pub mod Ranges
+pub mod Starts
 pub mod Changes
 pub mod Ends
 pub mod Unique

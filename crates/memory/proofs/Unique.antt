@@ -14,6 +14,7 @@ use Rattle.rules.specs.State.{Entry, entry}
 use Rattle.table.specs.Table.{rowAt, view, nth}
 use Rattle.table.specs.declared.row.Row.{Row}
 use Rattle.table.proofs.Laws.{length-view, nth-view}
+use Rattle.memory.specs.Moves.{startOf, Advances}
 use Rattle.memory.specs.Slots.{queues, slotsOf, Valid}
 use Rattle.memory.specs.Unique.{SameRow, Alike}
 use Rattle.memory.specs.declared.Memory.{Memory}
@@ -71,26 +72,39 @@ module _ (m : Memory) (t l p : List ℕ) (v : Valid m t l p) (m′ : Memory) (t�
     bytes true e = said (λ (x : Entry). x .bytes) e
     bytes false e = rw (v .idle i h e, v′ .idle i h′ (sym held ∙ e))
 
-    row : SameRow l p (r i) l′ p′ (r′ i)
-    row = record { held = held; listed = listed; stream = said (λ (x : Entry). x .stream); unread = unread; bytes = bytes (r i .held) refl }
-
   as-many : length (queues (view t (m .slots))) ≡ length (queues (view t′ (m′ .slots)))
   as-many = length-queues (view t (m .slots)) ∙ length-view t (m .slots) ∙ slots ∙ sym (length-queues (view t′ (m′ .slots)) ∙ length-view t′ (m′ .slots))
 
-  size-same : ((i : ℕ) → i < m .slots → r i .queue .from ≡ r′ i .queue .from)
-      → (k : ℕ) → k < length (queues (view t (m .slots))) → size (many.nth (queues (view t (m .slots))) k) ≡ size (many.nth (queues (view t′ (m′ .slots))) k)
-  size-same from k b =
-      let h : k < m .slots = omega (arith, length-queues (view t (m .slots)), length-view t (m .slots)) in
-      let x : many.nth (queues (view t (m .slots))) k ≡ r k .queue = nth-queues (view t (m .slots)) k ∙ ap (λ (z : Row). z .queue) (nth-view t (m .slots) k h) in
-      let y : many.nth (queues (view t′ (m′ .slots))) k ≡ r′ k .queue = nth-queues (view t′ (m′ .slots)) k ∙ ap (λ (z : Row). z .queue) (nth-view t′ (m′ .slots) k (h′ k h)) in
-      rw (x, y, from k h, unread k h)
+  -- of one memory and table before, both have their queues past the bytes read, and as many bytes were
+  pub from-same : (m₀ : Memory) (t₀ : List ℕ) → Advances m₀ t₀ m t → Advances m₀ t₀ m′ t′ → (i : ℕ) → i < m .slots → r i .queue .from ≡ r′ i .queue .from
+  from-same m₀ t₀ x y i h =
+      let old = rowAt t₀ (m₀ .slots) i .queue in
+      x i h ∙ ap (λ (n : ℕ). startOf (old .from) (old .unread) n) (unread i h) ∙ sym (y i (h′ i h))
 
-  free : ((i : ℕ) → i < m .slots → r i .queue .from ≡ r′ i .queue .from) → m .free .count ≡ m′ .free .count
-  free from =
-      same-free _ _ _ _ (blocksFor (m .slots) (m .pool)) (blocksFor (m′ .slots) (m′ .pool)) (v .shared .total) (v′ .shared .total)
-      (rw (slots, pool)) (sizes-same (queues (view t (m .slots))) (queues (view t′ (m′ .slots))) as-many (size-same from))
+  module _ (from : (i : ℕ) → i < m .slots → r i .queue .from ≡ r′ i .queue .from) where
+    row : (i : ℕ) → i < m .slots → SameRow l p (r i) l′ p′ (r′ i)
+    row i h = record {
+      held = held i h;
+      listed = listed i h;
+      stream = said i h (λ (x : Entry). x .stream);
+      from = from i h;
+      unread = unread i h;
+      bytes = bytes i h (r i .held) refl;
+    }
 
-  pub alike : Alike m t l p m′ t′ l′ p′
-  alike =
-      let c = counts-unique m t l p v m′ t′ l′ p′ v′ same in
-      record { slots = c .0; pool = pool; listed = c .1; unread = c .2; rows = row; free = free }
+    size-same : (k : ℕ) → k < length (queues (view t (m .slots))) → size (many.nth (queues (view t (m .slots))) k) ≡ size (many.nth (queues (view t′ (m′ .slots))) k)
+    size-same k b =
+        let h : k < m .slots = omega (arith, length-queues (view t (m .slots)), length-view t (m .slots)) in
+        let x : many.nth (queues (view t (m .slots))) k ≡ r k .queue = nth-queues (view t (m .slots)) k ∙ ap (λ (z : Row). z .queue) (nth-view t (m .slots) k h) in
+        let y : many.nth (queues (view t′ (m′ .slots))) k ≡ r′ k .queue = nth-queues (view t′ (m′ .slots)) k ∙ ap (λ (z : Row). z .queue) (nth-view t′ (m′ .slots) k (h′ k h)) in
+        rw (x, y, from k h, unread k h)
+
+    free : m .free .count ≡ m′ .free .count
+    free =
+        same-free _ _ _ _ (blocksFor (m .slots) (m .pool)) (blocksFor (m′ .slots) (m′ .pool)) (v .shared .total) (v′ .shared .total)
+        (rw (slots, pool)) (sizes-same (queues (view t (m .slots))) (queues (view t′ (m′ .slots))) as-many size-same)
+
+    pub alike : Alike m t l p m′ t′ l′ p′
+    alike =
+        let c = counts-unique m t l p v m′ t′ l′ p′ v′ same in
+        record { slots = c .0; pool = pool; listed = c .1; unread = c .2; free = free; rows = row }

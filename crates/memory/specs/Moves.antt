@@ -1,9 +1,11 @@
 -- What each operation does to the slots that valid memory holds. On any other contents it is safe and ends. `row` is what the slot holds before.
 use mathlib.Core.Path.{_≡_}
-use mathlib.Core.Bool.{Bool, true, false}
+use mathlib.Core.Bool.{Bool, true, false, cond}
 use mathlib.Core.List.{List, _++_, map}
-use Prim.Native.Nat.{ℕ, _+_, min, _≤_, _<_}
+use Prim.Native.Nat.{ℕ, _+_, _-_, _%_, min, _≤_, _<_}
+use lib.Dec.{eqb}
 use lib.ListN.{length, take, drop, set, replicate}
+use Rattle.chunks.specs.Blocks.{BLOCK}
 use Rattle.stream.specs.declared.Stream.{Stream}
 use Rattle.rules.specs.Lists.{nowhere}
 use Rattle.rules.specs.State.{Entry, entry, vacant, find}
@@ -14,11 +16,23 @@ use Rattle.table.specs.declared.row.Row.{Row}
 use Rattle.memory.specs.Slots.{slotsOf, Sized, Valid}
 use Rattle.memory.specs.declared.Memory.{Memory}
 
+-- where in its first block a queue starts that started at f with n bytes and has n′ now: past the bytes read, and at 0 where none is left
+abbrev pub startOf : ℕ → ℕ → ℕ → ℕ
+startOf f n n′ = cond (eqb n′ 0) 0 ((f + (n - n′)) % BLOCK)
+
+-- so each queue does
+abbrev pub Advances : Memory → List ℕ → Memory → List ℕ → Type 0
+Advances m t m′ t′ =
+    (i : ℕ) → i < m′ .slots
+    → rowAt t′ (m′ .slots) i .queue .from
+    ≡ startOf (rowAt t (m .slots) i .queue .from) (rowAt t (m .slots) i .queue .unread) (rowAt t′ (m′ .slots) i .queue .unread)
+
 -- valid again, of the same sizes, with the entry e at slot i and every other slot as it was
 pub record Moved (m : Memory) (t l p : List ℕ) (i : ℕ) (e : Entry) (m′ : Memory) (t′ l′ p′ : List ℕ) : Type 0 where
   pub valid : Valid m′ t′ l′ p′
   pub slots : slotsOf m′ t′ l′ p′ ≡ set (slotsOf m t l p) i e
   pub same : (m′ .slots ≡ m .slots) × (m′ .pool ≡ m .pool)
+  pub advances : Advances m t m′ t′
 
 -- the entry with the stream s, in the table or not, and these unread bytes
 abbrev pub held : Stream → Bool → List ℕ → Entry
@@ -70,6 +84,7 @@ pub record Ended (m : Memory) (t l p : List ℕ) (m′ : Memory) (t′ : List �
   pub valid : Valid m′ t′ l p
   pub slots : slotsOf m′ t′ l p ≡ map endEntry (slotsOf m t l p)
   pub same : (m′ .slots ≡ m .slots) × (m′ .pool ≡ m .pool)
+  pub advances : Advances m t m′ t′
 
 abbrev pub Ends : Memory → List ℕ → Memory → List ℕ → Type 0
 Ends m t m′ t′ = (l p : List ℕ) → Valid m t l p → Ended m t l p m′ t′

@@ -40,13 +40,14 @@ pub record Sized (m : Memory) (t l p : List ℕ) : Type 0 where
   pub links : length l ≡ blocksFor (m .slots) (m .pool)
   pub bytes : length p ≡ blocksFor (m .slots) (m .pool) * BLOCK
 
--- What every call leaves: keys tied to rows, rows in range, a free slot without a queue, no id twice in the table, the
--- queues and the free blocks sharing the pool, and the counts equal to their sums.
+-- What every call leaves: keys tied to rows, rows in range, a free slot without a queue, a queue with nothing unread at the start of
+-- a block, no id twice in the table, the queues and the free blocks sharing the pool, and the counts equal to their sums.
 pub record Valid (m : Memory) (t l p : List ℕ) : Type 0 where
   pub sized : Sized m t l p
   pub tied : Tied t (m .slots)
   pub proper : (i : ℕ) → i < m .slots → Proper (rowAt t (m .slots) i)
   pub idle : (i : ℕ) → i < m .slots → rowAt t (m .slots) i .held ≡ false → rowAt t (m .slots) i .queue ≡ none
+  pub empty : (i : ℕ) → i < m .slots → rowAt t (m .slots) i .queue .unread ≡ 0 → rowAt t (m .slots) i .queue .from ≡ 0
   pub distinct : Distinct (view t (m .slots))
   pub shared : Shared (m .slots) (m .pool) l p (m .free) (queues (view t (m .slots)))
   pub listed : m .listed ≡ sum (λ (r : Row). one (r .listed)) (view t (m .slots))

@@ -33,6 +33,7 @@ use Rattle.memory.specs.Moves.{Makes}
 use Rattle.memory.specs.Slots.{slotsOf}
 use Rattle.memory.specs.declared.Memory.{Memory}
 use Rattle.memory.proofs.Laws.{never, free-slots, free-at, listed-count, backlog}
+use Rattle.memory.proofs.Starts.{nothing-advances}
 use Rattle.connection.specs.Abstract.{absOf, Valid, Fresh}
 use Rattle.connection.specs.Promises.{bareAnswer, refused, gateOf, Follows, Over}
 use Rattle.connection.specs.declared.Connection.{Connection}
@@ -89,6 +90,7 @@ module _ (c : Connection) (t l p : List ℕ) where
     steps = λ v f. record {
       valid = record { memory = v .memory; slots = v .slots; pool = v .pool; fresh = record { parity = v .fresh .parity; below = v .fresh .below } };
       after = refl;
+      advances = nothing-advances (c .memory) t l p (v .memory);
       says = record { reply = refl; slot = refl; value = refl; sent = refl; wakes = refl };
       read = refl;
     };
@@ -129,6 +131,7 @@ module _ (c : Connection) (t l p : List ℕ) where
                 };
               };
               after = rw (w .slots);
+              advances = w .advances;
               says = record { reply = refl; slot = refl; value = refl; sent = refl; wakes = refl };
               read = refl;
             }

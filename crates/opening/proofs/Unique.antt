@@ -13,12 +13,13 @@ use Rattle.rules.specs.declared.Settings.{Settings}
 use Rattle.rules.specs.declared.Checked.{Checked}
 use Rattle.rules.specs.declared.Checked.the-variants as settings
 use Rattle.table.specs.Table.{rowAt}
-use Rattle.memory.proofs.Laws.{entry-held}
+use Rattle.memory.proofs.Laws.{entry-held, counts-unique}
 use Rattle.connection.specs.Abstract.{absOf}
+use Rattle.connection.specs.Unique.{Alike}
 use Rattle.connection.proofs.Unique.{alike}
 use Rattle.connection.specs.declared.Connection.{Connection}
 use Rattle.opening.specs.Start.{sized, Begins, Creates}
-use Rattle.opening.specs.Unique.{MadeAlike, Same}
+use Rattle.opening.specs.Unique.{Same}
 use Rattle.opening.specs.declared.Created.{Created}
 use Rattle.opening.specs.declared.Created.the-variants.{Made, Wrong, Size}
 use Rattle.opening.proofs.Starting.{entry-replicate}
@@ -31,13 +32,11 @@ no-queue k c t l p b i h =
     ap (λ (q : Queue). q .from) (b .0 .memory .idle i h free)
 
 made-alike : (k : Config) (c : Connection) (t l p : List ℕ) → Begins k (Made c) t l p → (c′ : Connection) (t′ l′ p′ : List ℕ) → Begins k (Made c′) t′ l′ p′
-    → MadeAlike c t l p c′ t′ l′ p′
+    → Alike c t l p c′ t′ l′ p′
 made-alike k c t l p b c′ t′ l′ p′ b′ =
-    let a = alike c t l p (b .0) c′ t′ l′ p′ (b′ .0) (b .1 ∙ sym (b′ .1)) in
-    record {
-      alike = a;
-      free = a .memory .free (λ i h. no-queue k c t l p b i h ∙ sym (no-queue k c′ t′ l′ p′ b′ i (omega (arith, a .memory .slots))));
-    }
+    let same = b .1 ∙ sym (b′ .1) in
+    let slots = counts-unique (c .memory) t l p (b .0 .memory) (c′ .memory) t′ l′ p′ (b′ .0 .memory) (ap (λ (x : Conn). x .slots) same) .0 in
+    alike c t l p (b .0) c′ t′ l′ p′ (b′ .0) same (λ i h. no-queue k c t l p b i h ∙ sym (no-queue k c′ t′ l′ p′ b′ i (omega (arith, slots))))
 
 made-same : (k : Config) (t l p : List ℕ) (r : Created) → Begins k r t l p → (t′ l′ p′ : List ℕ) (r′ : Created) → Begins k r′ t′ l′ p′ → Same r t l p r′ t′ l′ p′
 made-same k t l p (Made c) b t′ l′ p′ (Made c′) b′ = made-alike k c t l p b c′ t′ l′ p′ b′

@@ -3,14 +3,8 @@ use mathlib.Core.Path.{_≡_}
 use mathlib.Core.List.{List}
 use Prim.Native.Nat.{ℕ}
 use Rattle.connection.specs.Unique.{Alike}
-use Rattle.connection.specs.declared.Connection.{Connection}
 use Rattle.opening.specs.declared.Created.{Created}
 use Rattle.opening.specs.declared.Created.the-variants.{Made, Wrong, Size}
-
--- both are made: alike, with as many free blocks
-pub record MadeAlike (c : Connection) (t l p : List ℕ) (c′ : Connection) (t′ l′ p′ : List ℕ) : Type 0 where
-  pub alike : Alike c t l p c′ t′ l′ p′
-  pub free : c .memory .free .count ≡ c′ .memory .free .count
 
 -- neither is made: cell for cell
 pub record Equal (r : Created) (t l p : List ℕ) (r′ : Created) (t′ l′ p′ : List ℕ) : Type 0 where
@@ -19,8 +13,9 @@ pub record Equal (r : Created) (t l p : List ℕ) (r′ : Created) (t′ l′ p�
   pub links : l ≡ l′
   pub pool : p ≡ p′
 
+-- both are made: alike
 abbrev pub Same : Created → List ℕ → List ℕ → List ℕ → Created → List ℕ → List ℕ → List ℕ → Type 0
-Same (Made c) t l p (Made c′) t′ l′ p′ = MadeAlike c t l p c′ t′ l′ p′
+Same (Made c) t l p (Made c′) t′ l′ p′ = Alike c t l p c′ t′ l′ p′
 Same (Made c) t l p (Wrong w) t′ l′ p′ = ⊥
 Same (Made c) t l p Size t′ l′ p′ = ⊥
 Same (Wrong w) t l p r t′ l′ p′ = Equal (Wrong w) t l p r t′ l′ p′

@@ -14,6 +14,7 @@ use Rattle.table.specs.Table.{rowAt}
 use Rattle.handlers.specs.Perform.{outcomeOf}
 use Rattle.handlers.specs.Locals.{isShut, nothingRead}
 use Rattle.memory.proofs.Laws.{never}
+use Rattle.memory.proofs.Starts.{nothing-advances}
 use Rattle.connection.specs.Abstract.{absOf, Valid}
 use Rattle.connection.specs.Promises.{refused, gateOf, sentAfter, Promised}
 use Rattle.rules.specs.Replies.{leavesAll, mayGive}
@@ -51,7 +52,7 @@ module _ (c : Connection) (t l p out : List ℕ) where
   shut-reads i time shut = same-reads (gives (outcomeOf (nothingRead (record { 0 = i }))) (absOf c t l p)) (ruleOf (absOf c t l p) i (length out) time)
       (record { connection = c; answer = nothingRead (record { 0 = i }); read = 0 }) t l out (λ v. shut-rule c t l p i (length out) time shut) (record {
         steps = λ v. (
-          record { valid = v; after = refl; says = record { reply = refl; slot = refl; value = refl; sent = refl; wakes = refl }; read = refl },
+          record { valid = v; after = refl; advances = nothing-advances (c .memory) t l p (v .memory); says = record { reply = refl; slot = refl; value = refl; sent = refl; wakes = refl }; read = refl },
           refl,
         );
         refuses = λ e. never (sym e);

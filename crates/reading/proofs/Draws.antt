@@ -52,6 +52,7 @@ module _ (c : Connection) (t l p : List ℕ) (i : ℕ) (s : ReadStep) (m′ : Me
   drawn-follows v row w out out′ d = record {
     valid = record { memory = d .moved .valid; slots = d .moved .same .0 ∙ v .slots; pool = d .moved .same .1 ∙ v .pool; fresh = fresh };
     after = rw (d .moved .slots, w .follows .held);
+    advances = d .moved .advances;
     says = record { reply = refl; slot = refl; value = refl; sent = refl; wakes = refl };
     read = sym (length-take-le (s .count) (x .bytes) (w .unread));
   }
