@@ -1,20 +1,22 @@
--- What a call tests before its rules is what the rules test: the time, whether the connection has ended, and the handle. Assumes nothing.
+-- What a call tests before its rules is what the rules test: the time, whether the connection has ended, the handle and the free slot. Assumes nothing.
 use mathlib.Core.Path.{_≡_, refl, ap, _∙_}
 use mathlib.Core.Bool.{Bool, true, false, cond}
 use mathlib.Core.List.{List}
 use Prim.Native.Nat.{ℕ, _≤_, _<_}
 use lib.Dec.{ltb}
 use Rattle.rules.specs.Settings.{lastTime}
-use Rattle.rules.specs.State.{Entry, Conn, entry}
+use Rattle.rules.specs.Lists.{Place, at, nowhere}
+use Rattle.rules.specs.State.{Entry, Conn, entry, lowestFree}
 use Rattle.rules.specs.Step.{timed, holding}
 use Rattle.rules.specs.Ending.{Result, refuse}
 use Rattle.rules.specs.declared.Reply.{Reply}
 use Rattle.rules.specs.declared.Reply.the-variants as reply
-use Rattle.table.specs.Table.{rowAt}
+use Rattle.table.specs.Table.{rowAt, foundOf}
+use Rattle.handlers.specs.Perform.{vacancyOf}
 use Rattle.memory.specs.Slots.{slotsOf}
-use Rattle.memory.proofs.Laws.{entry-held, entry-beyond}
+use Rattle.memory.proofs.Laws.{entry-held, entry-beyond, free-slots}
 use Rattle.connection.specs.Abstract.{absOf, Valid}
-use Rattle.connection.specs.Promises.{gateOf}
+use Rattle.connection.specs.Promises.{gateOf, vacant, vacancyIn}
 use Rattle.connection.specs.declared.Connection.{Connection}
 use Rattle.connection.specs.declared.Gate.the-variants as gate
 
@@ -54,3 +56,12 @@ module _ (c : Connection) (t l p : List ℕ) (v : Valid c t l p) (i : ℕ) (next
 
   pub holding-held : i < c .memory .slots → rowAt t (c .memory .slots) i .held ≡ true → holding (absOf c t l p) i next ≡ next
   holding-held h e = by-held true (entry-held (c .memory) t l p (v .memory) i h ∙ e)
+
+-- ---- the lowest free slot
+
+vacant-of : (q : Place) → vacant (foundOf q) ≡ vacancyOf q
+vacant-of (at i) = refl
+vacant-of nowhere = refl
+
+pub vacancy-rules : (c : Connection) (t l p : List ℕ) → Valid c t l p → vacancyIn t (c .memory .slots) ≡ vacancyOf (lowestFree (slotsOf (c .memory) t l p))
+vacancy-rules c t l p v = ap vacant (free-slots (c .memory) t l p (v .memory)) ∙ vacant-of (lowestFree (slotsOf (c .memory) t l p))

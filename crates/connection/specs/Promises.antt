@@ -16,7 +16,12 @@ use Rattle.rules.specs.Settings.{lastTime}
 use Rattle.rules.specs.Replies.{Outcome, leavesAll, mayGive}
 use Rattle.rules.specs.Ending.{Result, end}
 use Rattle.rules.specs.Step.{Call, step}
+use Rattle.table.specs.Table.{lowestFree}
+use Rattle.table.specs.declared.Found.{Found}
+use Rattle.table.specs.declared.Found.the-variants as found
 use Rattle.handlers.specs.declared.Answer.{Answer}
+use Rattle.handlers.specs.declared.Vacancy.{Vacancy}
+use Rattle.handlers.specs.declared.Vacancy.the-variants as vacancy
 use Rattle.memory.specs.Moves.{Advances}
 use Rattle.connection.specs.Abstract.{absOf, Valid}
 use Rattle.connection.specs.declared.Connection.{Connection}
@@ -46,6 +51,14 @@ refused c r = record { connection = c; answer = bareAnswer r false; read = 0 }
 -- "10, 5 (ended)": a time above 2^62-1, and next a connection that has ended
 abbrev pub gateOf : Bool → ℕ → Gate
 gateOf ended now = cond (ltb lastTime now) (gate.Shut reply.Time) (cond ended (gate.Shut reply.Closed) gate.Open)
+
+abbrev pub vacant : Found → Vacancy
+vacant (found.At s) = vacancy.At s
+vacant found.Nowhere = vacancy.Nowhere
+
+-- "the lowest free one is taken"
+abbrev pub vacancyIn : List ℕ → ℕ → Vacancy
+vacancyIn t k = vacant (lowestFree t k)
 
 -- "Lent output changes only in the bytes read": those, and the rest as it was
 abbrev pub outAfter : List ℕ → List ℕ → List ℕ

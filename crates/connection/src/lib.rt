@@ -1,8 +1,9 @@
 // The connection: what it holds, and what its calls share. The calls themselves stand in the crates above.
 ghost use mathlib.Core.Path.{_≡_};
-ghost use Rattle.connection.specs.Promises.{bareAnswer, refused, gateOf, sentAfter, Over};
+ghost use Rattle.connection.specs.Promises.{bareAnswer, refused, gateOf, vacancyIn, sentAfter, Over};
 use frame::header;
 use handlers::Answer;
+use handlers::Vacancy;
 use memory::Memory;
 use rtt::Rtt;
 use rules::Config;
@@ -11,6 +12,7 @@ use rules::Value;
 use rules::Which;
 use rules::Woke;
 use stream::Sent;
+use table::Found;
 
 pub struct Connection {
     pub config: Config,
@@ -78,6 +80,17 @@ pub fn judge(ended: bool, now: u64) -> Gate
         return Gate::Shut(Reply::Closed);
     }
     Gate::Open
+}
+
+// The lowest free slot.
+pub fn vacancy(table: &[u64], k: u32) -> Vacancy
+    ensures { λ r. ⌜ r ≡ vacancyIn (now (table .entry)) k ⌝ }
+{
+    let found = table::lowest_free(table, k);
+    match found {
+        Found::At(slot) => Vacancy::At(slot),
+        Found::Nowhere => Vacancy::Nowhere,
+    }
 }
 
 // Writes the header that an answer gives into the twelve lent bytes, and leaves them as they were where it gives none.

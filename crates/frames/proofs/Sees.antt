@@ -17,7 +17,6 @@ use Rattle.rules.specs.declared.Mode.{Mode}
 use Rattle.rules.specs.declared.Mode.the-variants.{Client, Server}
 use Rattle.rules.specs.declared.Slot.{Slot}
 use Rattle.table.specs.Table.{rowAt, foundOf, Finds}
-use Rattle.table.specs.Table as table
 use Rattle.table.specs.declared.Found.{Found}
 use Rattle.handlers.specs.Actions.{acked}
 use Rattle.handlers.specs.Perform.{knownAt, vacancyOf, limitsOf, withoutWait}
@@ -27,10 +26,12 @@ use Rattle.handlers.specs.declared.Limits.{Limits}
 use Rattle.handlers.specs.declared.Vacancy.{Vacancy}
 use Rattle.handlers.specs.declared.Vacancy.the-variants as vacancy
 use Rattle.memory.specs.Slots.{slotsOf}
-use Rattle.memory.proofs.Laws.{find-slots, find-at, free-slots, free-at, entry-held, entry-of-held, listed-count, room-slots}
+use Rattle.memory.proofs.Laws.{find-slots, find-at, free-at, entry-held, entry-of-held, listed-count, room-slots}
 use Rattle.connection.specs.Abstract.{absOf, Valid}
+use Rattle.connection.specs.Promises.{vacancyIn}
+use Rattle.connection.proofs.Tests.{vacancy-rules}
 use Rattle.connection.specs.declared.Connection.{Connection}
-use Rattle.frames.specs.Shown.{seenAt, vacant, vacancyFor, limitsIn, waitAfter}
+use Rattle.frames.specs.Shown.{seenAt, vacancyFor, limitsIn, waitAfter}
 use Rattle.frames.specs.Handles.{Sound, Replaces, Opens, Room, Fits}
 use Rattle.frames.proofs.Walk.{Closed}
 
@@ -41,10 +42,6 @@ limited m k listed room = record { mode = m; «max_num_streams» = k; listed = l
 
 same-limits : (m : Mode) (k a b x y : ℕ) → a ≡ b → x ≡ y → limited m k a x ≡ limited m k b y
 same-limits m k a b x y e f = rw (e, f)
-
-vacant-of : (q : Place) → vacant (foundOf q) ≡ vacancyOf q
-vacant-of (at i) = refl
-vacant-of nowhere = refl
 
 -- the vacancy may stay unlooked for where the frame makes no stream
 pub unlooked : (q : Vacancy → Action) (r s : Bool) (v : Vacancy) → (r ≡ true → q v ≡ q vacancy.Nowhere) → (s ≡ false → q v ≡ q vacancy.Nowhere)
@@ -88,8 +85,8 @@ module _ (c : Connection) (t l p : List ℕ) (v : Valid c t l p) where
       (listed-count (c .memory) t l p (v .memory))
       (room-slots (c .memory) t l p (v .memory) ∙ ap (λ (n : ℕ). n - unreadTotal S) (v .pool))
 
-  sees-free : vacant (table.lowestFree t K) ≡ vacancyOf (lowestFree S)
-  sees-free = rw (free-slots (c .memory) t l p (v .memory)) (vacant-of (lowestFree S))
+  sees-free : vacancyIn t K ≡ vacancyOf (lowestFree S)
+  sees-free = vacancy-rules c t l p v
 
   -- the vacancy looked for is the rules', for what looks at it only with SYN and without RST
   pub sees-vacancy : (h : Header) (q : Vacancy → Action)
@@ -152,7 +149,7 @@ module _ (c : Connection) (t l p : List ℕ) (v : Valid c t l p) where
     makes : (i : Slot) (s : Stream) → vacancyFor t K h ≡ vacancy.At i → seenAt t K f h .known ≡ known.Nowhere
         → isRemote (c .config .mode) (h .«stream_id») ≡ true → s .id ≡ h .«stream_id» → Opens c t l p (i .0) s
     makes i s e g r d =
-        let o = looked (contains (h .flags) rst) (contains (h .flags) syn) (vacant (table.lowestFree t K)) i e in
+        let o = looked (contains (h .flags) rst) (contains (h .flags) syn) (vacancyIn t K) i e in
         let a = free-at (c .memory) t l p (v .memory) (i .0) (slot-of (lowestFree S) i (sym sees-free ∙ o)) in
         record {
           below = a .0;

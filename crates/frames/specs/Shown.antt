@@ -12,9 +12,10 @@ use Rattle.handlers.specs.declared.Vacancy.{Vacancy}
 use Rattle.handlers.specs.declared.Vacancy.the-variants as vacancy
 use Rattle.memory.specs.declared.Memory.{Memory}
 use Rattle.table.specs.Rows.{blank}
-use Rattle.table.specs.Table.{rowAt, lowestFree}
+use Rattle.table.specs.Table.{rowAt}
 use Rattle.table.specs.declared.Found.{Found}
 use Rattle.table.specs.declared.Found.the-variants as found
+use Rattle.connection.specs.Promises.{vacancyIn}
 use Rattle.connection.specs.declared.Connection.{Connection}
 use Rattle.connection.specs.declared.Done.{Done}
 use Rattle.frames.specs.declared.shown.Seen.{Seen}
@@ -25,10 +26,6 @@ abbrev pub seenAt : List ℕ → ℕ → Found → Header → Seen
 seenAt t k (found.At s) h = record { known = known.At s (acked h (rowAt t k (s .0) .stream)); row = rowAt t k (s .0) }
 seenAt t k found.Nowhere h = record { known = known.Nowhere; row = blank }
 
-abbrev pub vacant : Found → Vacancy
-vacant (found.At s) = vacancy.At s
-vacant found.Nowhere = vacancy.Nowhere
-
 abbrev pub isFound : Found → Bool
 isFound (found.At s) = true
 isFound found.Nowhere = false
@@ -36,7 +33,7 @@ isFound found.Nowhere = false
 -- "the lowest free one is taken": looked for where the frame may make a stream
 abbrev pub vacancyFor : List ℕ → ℕ → Header → Vacancy
 vacancyFor t k h =
-    cond (contains (h .flags) rst) vacancy.Nowhere (cond (contains (h .flags) syn) (vacant (lowestFree t k)) vacancy.Nowhere)
+    cond (contains (h .flags) rst) vacancy.Nowhere (cond (contains (h .flags) syn) (vacancyIn t k) vacancy.Nowhere)
 
 -- the streams in the table and the room, by the counts
 abbrev pub limitsIn : Connection → Limits

@@ -1,7 +1,7 @@
 // What a frame's handler is shown of the connection and of the table.
 ghost use mathlib.Core.Path.{_≡_};
 ghost use Rattle.table.specs.Table.{Finds};
-ghost use Rattle.frames.specs.Shown.{seenAt, vacant, vacancyFor, limitsIn, waitAfter, wokenBy, viewAt};
+ghost use Rattle.frames.specs.Shown.{seenAt, vacancyFor, limitsIn, waitAfter, wokenBy, viewAt};
 use connection::Connection;
 use frame::header::ACK;
 use frame::header::Header;
@@ -47,15 +47,6 @@ fn look(table: &[u64], k: u32, found: Found, header: Header) -> Seen
     }
 }
 
-fn vacant(found: Found) -> Vacancy
-    ensures { λ r. ⌜ r ≡ vacant found ⌝ }
-{
-    match found {
-        Found::At(slot) => Vacancy::At(slot),
-        Found::Nowhere => Vacancy::Nowhere,
-    }
-}
-
 // The lowest free slot, looked for only where the frame may make a stream.
 fn vacancy(table: &[u64], k: u32, header: Header) -> Vacancy
     ensures { λ r. ⌜ r ≡ vacancyFor (now (table .entry)) k header ⌝ }
@@ -65,8 +56,7 @@ fn vacancy(table: &[u64], k: u32, header: Header) -> Vacancy
         return Vacancy::Nowhere;
     }
     if flags.contains(SYN) {
-        let found = table::lowest_free(table, k);
-        return vacant(found);
+        return connection::vacancy(table, k);
     }
     Vacancy::Nowhere
 }

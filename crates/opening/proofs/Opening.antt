@@ -21,7 +21,7 @@ use Rattle.rules.specs.declared.Mode.the-variants.{Client, Server}
 use Rattle.rules.specs.declared.Reply.{Reply}
 use Rattle.rules.specs.declared.Reply.the-variants as reply
 use Rattle.rules.specs.declared.Slot.{Slot}
-use Rattle.table.specs.Table.{lowestFree, unacknowledged, foundOf}
+use Rattle.table.specs.Table.{unacknowledged}
 use Rattle.rules.proofs.Lists.{first-nowhere}
 use Rattle.table.proofs.Lists.{false-of}
 use Rattle.handlers.specs.Locals.{openWith, openAction, performOpen}
@@ -32,17 +32,16 @@ use Rattle.handlers.proofs.Locals.{open-performs}
 use Rattle.memory.specs.Moves.{Makes}
 use Rattle.memory.specs.Slots.{slotsOf}
 use Rattle.memory.specs.declared.Memory.{Memory}
-use Rattle.memory.proofs.Laws.{never, free-slots, free-at, listed-count, backlog}
+use Rattle.memory.proofs.Laws.{never, free-at, listed-count, backlog}
 use Rattle.memory.proofs.Starts.{nothing-advances}
 use Rattle.connection.specs.Abstract.{absOf, Valid, Fresh}
-use Rattle.connection.specs.Promises.{bareAnswer, refused, gateOf, Follows, Over}
+use Rattle.connection.specs.Promises.{bareAnswer, refused, gateOf, Follows, Over, vacancyIn}
 use Rattle.connection.specs.declared.Connection.{Connection}
 use Rattle.connection.specs.declared.Done.{Done}
 use Rattle.connection.specs.declared.Gate.the-variants as gate
 use Rattle.connection.proofs.Promises.{refuse-follows}
-use Rattle.connection.proofs.Tests.{gate-shut, gate-open}
+use Rattle.connection.proofs.Tests.{gate-shut, gate-open, vacancy-rules}
 use Rattle.connection.proofs.Ids.{Below, below-set}
-use Rattle.opening.specs.Open as specs
 use Rattle.opening.specs.Open.{decided, opened, settled, Opens, Fits, Sound, Acts, Enters}
 
 -- ---- the next id
@@ -142,19 +141,15 @@ module _ (c : Connection) (t l p : List ℕ) (now : ℕ) where
   abbrev a : Conn
   a = absOf c t l p
 
-  vacancies : (q : Place) → specs.vacant (foundOf q) ≡ vacancyOf q
-  vacancies (at i) = refl
-  vacancies nowhere = refl
-
   decided-rules : Valid c t l p
       → decided c t now ≡ openAction (rules.listedCount (a .slots)) (c .config .«max_num_streams») (rules.unacknowledged (c .config .mode) (a .slots)) (c .«next_id») (vacancyOf (rules.lowestFree (a .slots))) now
   decided-rules v =
       let m = c .memory in
-      rw (sym (listed-count m t l p (v .memory)), backlog m t l p (v .memory) (c .config .mode), free-slots m t l p (v .memory), vacancies (rules.lowestFree (slotsOf m t l p)))
+      rw (sym (listed-count m t l p (v .memory)), backlog m t l p (v .memory) (c .config .mode), vacancy-rules c t l p v)
 
   pub sound : Sound (decided c t now)
   unfolding openAction
-  sound = go (leb (c .config .«max_num_streams») (c .memory .listed)) (leb 256 (unacknowledged t (c .memory .slots) (c .config .mode))) (ltb top (c .«next_id» + 2)) (specs.vacant (lowestFree t (c .memory .slots)))
+  sound = go (leb (c .config .«max_num_streams») (c .memory .listed)) (leb 256 (unacknowledged t (c .memory .slots) (c .config .mode))) (ltb top (c .«next_id» + 2)) (vacancyIn t (c .memory .slots))
     where
       go : (x y z : Bool) (q : Rattle.handlers.specs.declared.Vacancy.Vacancy)
           → Sound (cond x (opening.End reply.TooManyStreams) (cond y opening.Wait (openWith (cond z next.NoMore (next.Id (record { 0 = c .«next_id» }) (c .«next_id» + 2))) q now)))

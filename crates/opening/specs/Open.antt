@@ -12,31 +12,23 @@ use Rattle.rules.specs.declared.Reply.the-variants as reply
 use Rattle.rules.specs.declared.Slot.{Slot}
 use Rattle.rules.specs.declared.Which.the-variants as which
 use Rattle.rules.specs.declared.Value.the-variants as value
-use Rattle.table.specs.Table.{lowestFree, unacknowledged}
-use Rattle.table.specs.declared.Found.{Found}
-use Rattle.table.specs.declared.Found.the-variants as found
+use Rattle.table.specs.Table.{unacknowledged}
 use Rattle.handlers.specs.Locals.{openAction, performOpen}
 use Rattle.handlers.specs.declared.Answer.{Answer}
 use Rattle.handlers.specs.declared.Opening.{Opening}
 use Rattle.handlers.specs.declared.Opening.the-variants as opening
-use Rattle.handlers.specs.declared.Vacancy.{Vacancy}
-use Rattle.handlers.specs.declared.Vacancy.the-variants as vacancy
 use Rattle.memory.specs.Slots.{slotsOf}
 use Rattle.memory.specs.declared.Memory.{Memory}
 use Rattle.connection.specs.Abstract.{absOf, Valid}
-use Rattle.connection.specs.Promises.{Follows}
+use Rattle.connection.specs.Promises.{vacancyIn, Follows}
 use Rattle.connection.specs.declared.Connection.{Connection}
 use Rattle.connection.specs.declared.Done.{Done}
-
-abbrev pub vacant : Found → Vacancy
-vacant (found.At s) = vacancy.At s
-vacant found.Nowhere = vacancy.Nowhere
 
 -- what the open does, by the counts and the table's cells
 abbrev pub decided : Connection → List ℕ → ℕ → Opening
 decided c t now =
     openAction (c .memory .listed) (c .config .«max_num_streams») (unacknowledged t (c .memory .slots) (c .config .mode)) (c .«next_id»)
-    (vacant (lowestFree t (c .memory .slots))) now
+    (vacancyIn t (c .memory .slots)) now
 
 -- the answer that gives a new stream's slot and id
 abbrev pub opened : Slot → ℕ → Answer

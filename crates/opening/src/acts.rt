@@ -1,12 +1,11 @@
 // What an open does to the connection and to lent memory.
 ghost use mathlib.Core.Path.{_≡_};
-ghost use Rattle.opening.specs.Open.{vacant, decided, opened, settled, Acts};
+ghost use Rattle.opening.specs.Open.{decided, opened, settled, Acts};
 use connection::Connection;
 use connection::Done;
 use frame::header::StreamId;
 use handlers::Answer;
 use handlers::Opening;
-use handlers::Vacancy;
 use memory::Memory;
 use rules::Reply;
 use rules::Slot;
@@ -14,16 +13,6 @@ use rules::Value;
 use rules::Which;
 use rules::Woke;
 use stream::Sent;
-use table::Found;
-
-fn vacant(found: Found) -> Vacancy
-    ensures { λ r. ⌜ r ≡ vacant found ⌝ }
-{
-    match found {
-        Found::At(slot) => Vacancy::At(slot),
-        Found::Nowhere => Vacancy::Nowhere,
-    }
-}
 
 // What the open is to do.
 pub(crate) fn decide(c: Connection, table: &[u64], time: u64) -> Opening
@@ -33,8 +22,7 @@ pub(crate) fn decide(c: Connection, table: &[u64], time: u64) -> Opening
     let memory = c.memory;
     let mode = config.mode;
     let backlog = table::unacknowledged(table, memory.slots, mode);
-    let found = table::lowest_free(table, memory.slots);
-    let vacancy = vacant(found);
+    let vacancy = connection::vacancy(table, memory.slots);
     handlers::open::open_action(
         memory.listed,
         config.max_num_streams,

@@ -13,14 +13,11 @@ returns c = rw (sym (c .before .contains .ensures) ∙ c .if1 .taken)
 contains-requires-2 : tie.Need-contains-requires-2
 contains-requires-2 c κs = search needs
 
-lowest-free-requires : tie.Need-lowest-free-requires
-lowest-free-requires c κs = search needs
-
-vacant-requires : tie.Need-vacant-requires
-vacant-requires c κs = search needs
+vacancy-requires : tie.Need-vacancy-requires
+vacancy-requires c κs = search needs
 
 returns-2 : tie.Need-returns-2
-returns-2 c = rw (c .vacant .ensures, c .before .lowest-free .ensures, sym (c .before .before .before .before .before .contains .ensures) ∙ c .before .before .before .before .if1 .left, sym (c .before .before .before .contains2 .ensures) ∙ c .before .before .if2 .taken)
+returns-2 c = rw (c .vacancy .ensures, sym (c .before .before .before .before .contains .ensures) ∙ c .before .before .before .if1 .left, sym (c .before .before .contains2 .ensures) ∙ c .before .if2 .taken)
 
 returns-3 : tie.Need-returns-3
 returns-3 c = rw (sym (c .before .before .before .contains .ensures) ∙ c .before .before .if1 .left, sym (c .before .contains2 .ensures) ∙ c .if2 .left)
@@ -32,7 +29,6 @@ vacancy-spec =
     contains-requires
     returns
     contains-requires-2
-    lowest-free-requires
-    vacant-requires
+    vacancy-requires
     returns-2
     returns-3)
