@@ -48,6 +48,7 @@ impl Second {
         let input = File::open(&path).expect("trace file");
         let output = Command::new(program).stdin(input).stderr(Stdio::inherit()).output();
         let output = output.unwrap_or_else(|e| panic!("{program}: {e}"));
+        let _ = std::fs::remove_file(&path);
         let mut lines = String::from_utf8_lossy(&output.stdout).into_owned();
         if !output.status.success() {
             lines += &format!("{program}: {}\n", output.status);

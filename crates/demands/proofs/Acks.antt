@@ -11,18 +11,20 @@ use Rattle.frame.specs.Header.{contains, ack}
 use Rattle.frame.specs.declared.header.Header.{Header}
 use Rattle.frame.specs.declared.header.StreamId.{StreamId}
 use Rattle.stream.specs.Streams.{acknowledged}
+use Rattle.stream.specs.declared.Stream.{Stream}
 use Rattle.rules.specs.Lists.{Place, at, nowhere}
 use Rattle.rules.specs.State.{Entry, Conn, vacant, entry, one, hasId, listedCount, unreadTotal, room, withStream, withSlot, withOpenWait}
-use Rattle.rules.specs.Frames.{Acked, ackStep, acknowledgeAt}
+use Rattle.rules.specs.Frames.{Acked, isKnown, ackStep, acknowledgeAt}
+use Rattle.rules.proofs.Lists.{Says, sum-set}
 use Rattle.demands.specs.Demands.{heldCount}
-use Rattle.demands.proofs.Lists.{split, both, true-not-false, at-set, Found, sum-set}
+use Rattle.demands.proofs.Lists.{split, both, true-not-false, at-set}
 use Rattle.demands.proofs.Invariant.{Inv, Stays, held-good, stays}
 use Rattle.demands.proofs.Sound.{bytesOf, bytes-same}
 
 -- ---- a stream that was found
 
 abbrev pub Located : List Entry → StreamId → Place → Type 0
-Located es id place = Found (hasId id) vacant es place
+Located es id place = Says (hasId id) es vacant place
 
 pub is-listed : (id : StreamId) (e : Entry) → hasId id e ≡ true → e .listed ≡ true
 is-listed id e h = both (e .listed) _ h .0
@@ -32,10 +34,15 @@ is-id id e h = eqb-true _ _ (both (e .listed) _ h .1)
 
 -- ---- the ACK step
 
--- the step leaves handles, ids, figures and bytes
+-- the same marks
+abbrev pub SameWaits : Stream → Stream → Type 0
+SameWaits s t = (s .reader ≡ t .reader) × (s .writer ≡ t .writer)
+
+-- the step leaves handles, ids, figures, marks and bytes
 pub record Acks (a : Acked) (id : StreamId) (place : Place) : Type 0 where
   pub inv : Inv (a .conn)
   pub before : Inv (a .before)
+  pub alive : a .before .ended ≡ false
   pub live : a .conn .ended ≡ false
   pub config : a .conn .config ≡ a .before .config
   pub next : a .conn .nextId ≡ a .before .nextId
@@ -44,8 +51,10 @@ pub record Acks (a : Acked) (id : StreamId) (place : Place) : Type 0 where
   pub helds : heldCount (a .conn .slots) ≡ heldCount (a .before .slots)
   pub listeds : listedCount (a .conn .slots) ≡ listedCount (a .before .slots)
   pub flows : (j : ℕ) → entry (a .conn .slots) j .stream .flow ≡ entry (a .before .slots) j .stream .flow
+  pub waits : (j : ℕ) → SameWaits (entry (a .conn .slots) j .stream) (entry (a .before .slots) j .stream)
   pub unread : unreadTotal (a .conn .slots) ≡ unreadTotal (a .before .slots)
   pub beside : (j : ℕ) → (place ≡ at j → ⊥) → entry (a .conn .slots) j ≡ entry (a .before .slots) j
+  pub unknown : place ≡ nowhere → a .conn .slots ≡ a .before .slots
   pub located : Located (a .conn .slots) id place
 
 module _ (c : Conn) (v : Inv c) (live : c .ended ≡ false) (id : StreamId) where
@@ -53,6 +62,7 @@ module _ (c : Conn) (v : Inv c) (live : c .ended ≡ false) (id : StreamId) wher
   unmoved b w place l = record {
     inv = v;
     before = v;
+    alive = live;
     live = live;
     config = refl;
     next = refl;
@@ -61,8 +71,10 @@ module _ (c : Conn) (v : Inv c) (live : c .ended ≡ false) (id : StreamId) wher
     helds = refl;
     listeds = refl;
     flows = λ j. refl;
+    waits = λ j. (refl, refl);
     unread = refl;
     beside = λ j n. refl;
+    unknown = λ e. refl;
     located = l;
   }
 
@@ -87,6 +99,7 @@ module _ (c : Conn) (v : Inv c) (live : c .ended ≡ false) (id : StreamId) wher
   acked i l = record {
     inv = stays c v i (known i) (c .growth) (known-stays i l);
     before = v;
+    alive = live;
     live = live;
     config = refl;
     next = refl;
@@ -95,8 +108,10 @@ module _ (c : Conn) (v : Inv c) (live : c .ended ≡ false) (id : StreamId) wher
     helds = omega (arith, sum-set (λ (e : Entry). one (e .held)) (c .slots) i (known i) vacant (l .0));
     listeds = omega (arith, sum-set (λ (e : Entry). one (e .listed)) (c .slots) i (known i) vacant (l .0));
     flows = at-set (λ j e. e .stream .flow ≡ entry (c .slots) j .stream .flow) (c .slots) i (known i) vacant (l .0) refl (λ j n. refl);
+    waits = at-set (λ j e. SameWaits (e .stream) (entry (c .slots) j .stream)) (c .slots) i (known i) vacant (l .0) (refl, refl) (λ j n. (refl, refl));
     unread = omega (arith, sum-set (λ (e : Entry). length (e .bytes)) (c .slots) i (known i) vacant (l .0));
     beside = λ j n. getD-set-other (c .slots) i j (known i) vacant (λ e. n (ap at (sym e)));
+    unknown = λ e. true-not-false refl (ap isKnown e);
     located = (rw (length-set (c .slots) i (known i)) (l .0), rw (getD-set-same (c .slots) i (known i) vacant (l .0)) (l .1));
   }
 

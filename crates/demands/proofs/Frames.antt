@@ -17,15 +17,15 @@ use Rattle.rtt.specs.Pings.{handlePong}
 use Rattle.rtt.specs.declared.Pong.{Pong}
 use Rattle.rtt.specs.declared.Pong.the-variants.{Accepted, Unexpected}
 use Rattle.flow_control.specs.Windows.{top, fresh, withReceive}
-use Rattle.stream.specs.declared.State.the-variants.{Closed}
 use Rattle.rules.specs.declared.Reply.the-variants as reply
 use Rattle.rules.specs.Lists.{Place, at, nowhere}
 use Rattle.rules.specs.State.{Conn, vacant, isRemote, hasId, find, listedCount, room}
 use Rattle.rules.specs.Ending.{Result}
 use Rattle.rules.specs.Frames.{Acked, ackStep, synData, synUpdate, dataRules, updateRules, pongRules, pingRules, answersPing, frameRules, bodyLength, onHeader}
+use Rattle.rules.proofs.Lists.{first-says}
 use Rattle.demands.specs.Demands.{opens, opensAs}
 use Rattle.demands.specs.History.{byTag}
-use Rattle.demands.proofs.Lists.{split, found}
+use Rattle.demands.proofs.Lists.{split}
 use Rattle.demands.proofs.Invariant.{Flows, Inv}
 use Rattle.demands.proofs.Sound.{Sound, refused-plain, done, ends}
 use Rattle.demands.proofs.Acks.{Acks, Located, after-ack, unmoved, acknowledges}
@@ -104,7 +104,7 @@ module _ (c : Conn) (v : Inv c) (live : c .ended ≡ false) (h : Header) (body :
   place = find (c .slots) (h .«stream_id»)
 
   located : Located (c .slots) (h .«stream_id») place
-  located = found (hasId (h .«stream_id»)) vacant (c .slots)
+  located = first-says (hasId (h .«stream_id»)) (c .slots) vacant
 
   data-frame : Sound c (λ j. place ≡ at j) (opens c h body) (byTag tag.Data h body place (dataRules (ackStep c h place) h body place now .outcome)) (dataRules (ackStep c h place) h body place now)
   data-frame =

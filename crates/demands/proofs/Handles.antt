@@ -24,8 +24,9 @@ use Rattle.rules.specs.State.{Entry, Conn, vacant, entry, firstOwn, isFree, isO
 use Rattle.rules.specs.Ending.{Result}
 use Rattle.rules.specs.Frames.{newEntry}
 use Rattle.rules.specs.Calls.{openAt, open-rules, growthOf, removedEntry, dropAt, dropRules, pingOut, tickRules}
+use Rattle.rules.proofs.Lists.{Says, first-says, sum-at}
 use Rattle.demands.specs.History.{nothing, freed, tells, isDone, put}
-use Rattle.demands.proofs.Lists.{split, true-not-false, at-set, Found, found, sum-at}
+use Rattle.demands.proofs.Lists.{split, true-not-false, at-set}
 use Rattle.demands.proofs.Invariant.{Inv, Kept, Fit, Stays, idAt, vacant-good, held-good, in-range, replaced, stays}
 use Rattle.demands.proofs.Sound.{Sound, Beside, moves, bytesOf, put-same, put-other, bytes-put, bytes-same, refused-plain, done, ends}
 use Rattle.demands.proofs.Acks.{Located, is-listed}
@@ -65,7 +66,7 @@ module _ (c : Conn) (v : Inv c) (live : c .ended ≡ false) (now : ℕ) where
   abbrev OpenOk : Result → Type 0
   OpenOk r = Sound c (λ j. ⊥) false (cond (isDone (r .outcome .reply)) (tells (r .outcome .slot) (r .outcome .value) [] nothing) nothing) r
 
-  opens-at : (p : Place) → Found isFree vacant (c .slots) p → listedCount (c .slots) < c .config .«max_num_streams» → c .nextId + 2 ≤ top → OpenOk (openAt p c now)
+  opens-at : (p : Place) → Says isFree (c .slots) vacant p → listedCount (c .slots) < c .config .«max_num_streams» → c .nextId + 2 ≤ top → OpenOk (openAt p c now)
   unfolding openAt
   opens-at nowhere f m t = refused-plain c _ false _ v reply.NoSlot refl (λ j. refl)
   opens-at (at i) f m t =
@@ -84,7 +85,7 @@ module _ (c : Conn) (v : Inv c) (live : c .ended ≡ false) (now : ℕ) where
       (λ u.
       split OpenOk (ltb top (c .nextId + 2))
       (λ t. ends c v live _ false _ reply.NoMoreStreamIds refl refl refl)
-      (λ t. opens-at (lowestFree (c .slots)) (found isFree vacant (c .slots)) (leb-false _ _ m) (ltb-false top (c .nextId + 2) t))))
+      (λ t. opens-at (lowestFree (c .slots)) (first-says isFree (c .slots) vacant) (leb-false _ _ m) (ltb-false top (c .nextId + 2) t))))
 
 -- ---- drop
 
@@ -170,7 +171,7 @@ module _ (c : Conn) (v : Inv c) (i : ℕ) (held : entry (c .slots) i .held ≡ t
 
   pub drops : DropOk (find (c .slots) (dropping .stream .id)) (dropRules c i dropping)
   unfolding dropRules
-  drops = drops-at (find (c .slots) (dropping .stream .id)) (found (hasId (dropping .stream .id)) vacant (c .slots))
+  drops = drops-at (find (c .slots) (dropping .stream .id)) (first-says (hasId (dropping .stream .id)) (c .slots) vacant)
 
 -- ---- tick
 

@@ -14,10 +14,12 @@ use Rattle.flow_control.specs.Windows.{top}
 use Rattle.flow_control.specs.declared.FlowController.{FlowController}
 use Rattle.stream.specs.declared.State.the-variants.{Closed}
 use Rattle.rules.specs.declared.Config.{Config}
+use Rattle.rules.specs.Settings.{lastTime}
 use Rattle.rules.specs.Lists.{sum}
 use Rattle.rules.specs.State.{Entry, Conn, vacant, entry, one, firstOwn, isOwn, listedCount, unreadTotal}
 use Rattle.rules.specs.Calls.{growthOf}
-use Rattle.demands.proofs.Lists.{true-not-false, at-set, sum-set}
+use Rattle.rules.proofs.Lists.{sum-set}
+use Rattle.demands.proofs.Lists.{true-not-false, at-set}
 
 -- ---- what is kept
 
@@ -38,6 +40,12 @@ pub record Good (e : Entry) : Type 0 where
 pub record Allowed (c : Config) : Type 0 where
   pub streams : c .«max_num_streams» ≤ 512
   pub least : c .«max_num_streams» * initialWindow ≤ c .limit
+  pub splits : 1 ≤ c .split
+  pub split : c .split ≤ top
+  pub intervals : 1 ≤ c .interval
+  pub interval : c .interval ≤ lastTime
+  pub first-time : c .«first_time» ≤ lastTime
+  pub first-id : c .«first_id» ≤ top
   pub some : 1 ≤ c .slots
   pub many : c .slots ≤ 1024
   pub enough : c .«max_num_streams» ≤ c .slots

@@ -32,8 +32,9 @@ use Rattle.rules.specs.Lists.{Place, at, nowhere}
 use Rattle.rules.specs.State.{Entry, vacant, entry, one, room, withSlot}
 use Rattle.rules.specs.Ending.{Result}
 use Rattle.rules.specs.Frames.{Acked, noAction, goAway, onReset, resetEntry, takenEntry, takeAt, knownData, knownUpdate}
+use Rattle.rules.proofs.Lists.{sum-set}
 use Rattle.demands.specs.History.{Event, nothing, tells, brought, byTag, put}
-use Rattle.demands.proofs.Lists.{split, true-not-false, sum-set}
+use Rattle.demands.proofs.Lists.{split, true-not-false}
 use Rattle.demands.proofs.Invariant.{Flows, Good, Stays, held-good, stays}
 use Rattle.demands.proofs.Sound.{Sound, Beside, Crowded, bytesOf, left, bytes-put, bytes-same, same-put, refused, done, crowds}
 use Rattle.demands.proofs.Acks.{Acks, is-listed}

@@ -15,4 +15,7 @@ pub mod Bytes
 pub mod Theorems
 pub mod Stale
 pub mod Progress
+pub mod Marks
+pub mod OwnMarks
+pub mod Waits
 pub mod Witnesses

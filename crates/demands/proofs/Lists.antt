@@ -1,4 +1,4 @@
--- Laws of tests, of searches and of sums over a list. Assumes nothing.
+-- Laws of tests, of one changed element and of sums over a list. Assumes nothing.
 use mathlib.Core.Path.{_≡_, refl, sym, _∙_, subst}
 use mathlib.Core.Bool.{Bool, true, false, cond}
 use mathlib.Core.List.{List, [], _∷_, map}
@@ -10,7 +10,7 @@ use mathlib.Core.Logic.{_≢_}
 use lib.Dec.{T}
 use lib.ListN.{length, getD, set, replicate}
 use lib.Seq.{getD-set-same, getD-set-other}
-use Rattle.rules.specs.Lists.{Place, at, nowhere, past, first, sum}
+use Rattle.rules.specs.Lists.{sum}
 use Rattle.rules.specs.State.{one}
 
 -- ---- tests
@@ -50,39 +50,9 @@ module _ {A : Type 0} where
   getD-same (suc n) zero d = refl
   getD-same (suc n) (suc j) d = getD-same n j d
 
--- ---- searches
-
-module _ {A : Type 0} (f : A → Bool) (d : A) where
-  -- what a place says: that an element there passes, or that none does
-  abbrev pub Found : List A → Place → Type 0
-  Found l (at i) = (i < length l) × (f (getD l i d) ≡ true)
-  Found l nowhere = (j : ℕ) → j < length l → f (getD l j d) ≡ false
-
-  found-past : (x : A) (l : List A) (p : Place) → f x ≡ false → Found l p → Found (x ∷ l) (past p)
-  found-past x l (at i) e h = (omega (arith, h .0), h .1)
-  found-past x l nowhere e h = none
-    where
-      none : (j : ℕ) → j < length (x ∷ l) → f (getD (x ∷ l) j d) ≡ false
-      none zero k = e
-      none (suc j) k = h j (le-of-suc-le-suc k)
-
-  pub found : (l : List A) → Found l (first f l)
-  found [] = λ j h. absurd (not-suc-le-zero h)
-  found (x ∷ l) = split (Found (x ∷ l)) (f x) (λ e. (omega arith, e)) (λ e. found-past x l (first f l) e (found l))
-
 -- ---- sums
 
 module _ {A : Type 0} (f : A → ℕ) where
-  pub sum-set : (l : List A) (i : ℕ) (x d : A) → i < length l → sum f (set l i x) + f (getD l i d) ≡ sum f l + f x
-  sum-set [] i x d h = absurd (not-suc-le-zero h)
-  sum-set (y ∷ l) zero x d h = omega arith
-  sum-set (y ∷ l) (suc i) x d h = omega (arith, sum-set l i x d (le-of-suc-le-suc h))
-
-  pub sum-at : (l : List A) (i : ℕ) (d : A) → i < length l → f (getD l i d) ≤ sum f l
-  sum-at [] i d h = absurd (not-suc-le-zero h)
-  sum-at (y ∷ l) zero d h = omega arith
-  sum-at (y ∷ l) (suc i) d h = omega (arith, sum-at l i d (le-of-suc-le-suc h))
-
   pub sum-map : (g : A → A) (l : List A) → ((x : A) → f (g x) ≡ f x) → sum f (map g l) ≡ sum f l
   sum-map g [] e = refl
   sum-map g (x ∷ l) e = omega (arith, e x, sum-map g l e)

@@ -23,7 +23,8 @@ use Rattle.rules.specs.State.{Entry, vacant, entry, one, isFree, isOwn, isRemot
 use Rattle.rules.specs.Ending.{Result}
 use Rattle.rules.specs.Frames.{Acked, newEntry, makeAt, make, synRules}
 use Rattle.rules.specs.Calls.{growthOf}
-use Rattle.demands.proofs.Lists.{split, true-not-false, Found, found, sum-set, sum-spare}
+use Rattle.rules.proofs.Lists.{Says, first-says, sum-set}
+use Rattle.demands.proofs.Lists.{split, true-not-false, sum-spare}
 use Rattle.demands.proofs.Invariant.{Flows, Good, Fit, idAt, held-good, in-range, replaced}
 use Rattle.demands.proofs.Sound.{Beside, Crowded, bytes-put, refused, refused-plain, done, crowds}
 use Rattle.demands.proofs.Acks.{Acks}
@@ -97,7 +98,7 @@ module _ (h : Header) (body : List ℕ) (a : Acked) (opening : Bool) where
         let same = k .beside j n in
         getD-set-other (a .conn .slots) i j fresher vacant (λ e. true-not-false held (ap (λ (x : Entry). x .held) (sym same ∙ ap (λ (m : ℕ). entry (a .conn .slots) m) e ∙ free))) ∙ same
 
-    makes-at : (t : Tag) (p : Place) → Found isFree vacant (a .conn .slots) p → Ok h body a opening nowhere t (makeAt p a s body)
+    makes-at : (t : Tag) (p : Place) → Says isFree (a .conn .slots) vacant p → Ok h body a opening nowhere t (makeAt p a s body)
     unfolding makeAt
     makes-at t nowhere f = refused-plain (a .before) _ opening _ (k .before) reply.NoSlot refl (λ j. refl)
     makes-at t (at i) f =
@@ -111,7 +112,7 @@ module _ (h : Header) (body : List ℕ) (a : Acked) (opening : Bool) where
 
     pub makes : (t : Tag) → Ok h body a opening nowhere t (make a s body)
     unfolding make
-    makes t = makes-at t (lowestFree (a .conn .slots)) (found isFree vacant (a .conn .slots))
+    makes t = makes-at t (lowestFree (a .conn .slots)) (first-says isFree (a .conn .slots) vacant)
 
   -- the tests of a SYN
   pub syns :

@@ -21,9 +21,10 @@ use Rattle.rules.specs.Replies.{Outcome, leavesAll, mayGive}
 use Rattle.rules.specs.State.{Entry, Conn, vacant, entry, one, isOwn, room, unreadTotal}
 use Rattle.rules.specs.Ending.{Result, gives, refuse, end, ended, endEntry}
 use Rattle.rules.specs.Calls.{growthOf}
+use Rattle.rules.proofs.Lists.{sum-set}
 use Rattle.demands.specs.Demands.{heldCount}
 use Rattle.demands.specs.History.{Event, nothing, made, accepted, gaveOut, freed, put}
-use Rattle.demands.proofs.Lists.{true-not-false, at-set, getD-map, sum-set, sum-map, sum-map-none, sum-le, sum-add, sum-each}
+use Rattle.demands.proofs.Lists.{true-not-false, at-set, getD-map, sum-map, sum-map-none, sum-le, sum-add, sum-each}
 use Rattle.demands.proofs.Invariant.{Flows, Good, Inv}
 
 -- ---- bytes
@@ -170,7 +171,7 @@ end-good e g = record {
 }
 
 -- what holds of an entry that was ended holds of it in the table that was ended
-at-end : (P : ℕ → Entry → Type 0) (es : List Entry) → ((j : ℕ) → P j (endEntry (entry es j))) → (j : ℕ) → P j (entry (map endEntry es) j)
+pub at-end : (P : ℕ → Entry → Type 0) (es : List Entry) → ((j : ℕ) → P j (endEntry (entry es j))) → (j : ℕ) → P j (entry (map endEntry es) j)
 at-end P es h j = subst (P j) (sym (getD-map endEntry es j vacant refl)) (h j)
 
 end-growth : (e : Entry) → growthOf (endEntry e) ≡ growthOf e

@@ -31,9 +31,9 @@ use Rattle.rules.specs.Ending.{Result, gives, refuse}
 use Rattle.rules.specs.Calls.{growthOf, onSlot, readEntry, readRest, readWith, windowStep, readRules, writeWith, writeRules, closeRules, removedEntry, dropAt, dropRules}
 use Rattle.rules.specs.Step.{step}
 use Rattle.rules.specs.Step as rules
+use Rattle.rules.proofs.Lists.{Says, first-says}
 use Rattle.demands.specs.Handles.{Stale, StaleRead, StaleWrite, StaleClose, StaleDrop, StaleDropThenNew, NewDrop, aboutDecoded, OthersStay, FramesPassStale}
-use Rattle.demands.proofs.Lists.{split, true-not-false, Found, at-set}
-use Rattle.demands.proofs.Lists.{found as finds}
+use Rattle.demands.proofs.Lists.{split, true-not-false, at-set}
 use Rattle.demands.proofs.Invariant.{Inv, in-range}
 use Rattle.demands.proofs.Acks.{is-listed, is-id}
 use Rattle.demands.proofs.Steps.{sound, reached}
@@ -44,7 +44,7 @@ use Rattle.demands.proofs.Answers.{timely, holds}
 module _ (c : Conn) (v : Inv c) (id : StreamId) where
   -- the one stream in the table that has the number
   pub found-at : (i : ℕ) → entry (c .slots) i .listed ≡ true → entry (c .slots) i .stream .id ≡ id → find (c .slots) id ≡ at i
-  found-at i l e = go (find (c .slots) id) (finds (hasId id) vacant (c .slots))
+  found-at i l e = go (find (c .slots) id) (first-says (hasId id) (c .slots) vacant)
     where
       n : entry (c .slots) i .stream .id .0 ≡ id .0
       n = ap (λ (d : StreamId). d .0) e
@@ -52,15 +52,15 @@ module _ (c : Conn) (v : Inv c) (id : StreamId) where
       has : hasId id (entry (c .slots) i) ≡ true
       has = rw (l, eq-eqb _ _ n)
 
-      go : (p : Place) → Found (hasId id) vacant (c .slots) p → p ≡ at i
+      go : (p : Place) → Says (hasId id) (c .slots) vacant p → p ≡ at i
       go (at j) f = ap at (v .unique j i (is-listed id (entry (c .slots) j) (f .1)) l (is-id id (entry (c .slots) j) (f .1) ∙ sym n))
       go nowhere f = true-not-false has (f i (in-range (c .slots) i (v .good i .holds l)))
 
   -- a number that no stream in the table has
   pub found-nowhere : ((j : ℕ) → entry (c .slots) j .listed ≡ true → entry (c .slots) j .stream .id .0 ≡ id .0 → ⊥) → find (c .slots) id ≡ nowhere
-  found-nowhere n = go (find (c .slots) id) (finds (hasId id) vacant (c .slots))
+  found-nowhere n = go (find (c .slots) id) (first-says (hasId id) (c .slots) vacant)
     where
-      go : (p : Place) → Found (hasId id) vacant (c .slots) p → p ≡ nowhere
+      go : (p : Place) → Says (hasId id) (c .slots) vacant p → p ≡ nowhere
       go (at j) f = absurd (n j (is-listed id (entry (c .slots) j) (f .1)) (is-id id (entry (c .slots) j) (f .1)))
       go nowhere f = refl
 
@@ -211,12 +211,21 @@ pub stale-drop : StaleDrop
 unfolding dropAt
 stale-drop c old new s now t =
     rw (stale-drop-is c old new s now t)
-    (refl, refl, getD-set-same (without c old new s) old vacant vacant (old-in c old new s), at-new c old new s, at-others c old new s)
+    (refl, refl, refl, getD-set-same (without c old new s) old vacant vacant (old-in c old new s), at-new c old new s, at-others c old new s)
 
 pub stale-drop-then-new : StaleDropThenNew
 unfolding dropAt
 stale-drop-then-new c old new s now later t u =
-    rw (stale-after c old new s now t, then-new c old new s later u) (refl, refl)
+    let es = set (without c old new s) old vacant in
+    let l : new < length es = rw (length-set (without c old new s) old vacant, length-set (c .slots) new (removedEntry (entry (c .slots) new))) (new-in c old new s) in
+    rw (stale-after c old new s now t, then-new c old new s later u) (
+      refl,
+      refl,
+      refl,
+      getD-set-other es new old vacant vacant (λ e. apart c old new s (sym e)) ∙ getD-set-same (without c old new s) old vacant vacant (old-in c old new s),
+      getD-set-same es new vacant vacant l,
+      (λ j o n. getD-set-other es new j vacant vacant n ∙ at-others c old new s j o n),
+    )
 
 pub new-drop : NewDrop
 unfolding dropAt
@@ -226,6 +235,7 @@ new-drop c old new s now t =
     let h = new-held c old new s in
     let l = in-range (c .slots) new h in
     rw (drop-is c now new (at new) t h (found-at c (reached (s .reached)) (e .stream .id) new (s .listed) refl)) (
+      refl,
       refl,
       refl,
       getD-set-same (set (c .slots) new x) new vacant vacant (rw (length-set (c .slots) new x) l),
@@ -242,7 +252,7 @@ not-about c found.Size j l a = a
 not-about c (found.Version n) j l a = a
 not-about c (found.Type n) j l a = a
 not-about c (found.Header h) j l a =
-    let f = subst (Found (hasId (h .«stream_id»)) vacant (c .slots)) a (finds (hasId (h .«stream_id»)) vacant (c .slots)) in
+    let f = subst (Says (hasId (h .«stream_id»)) (c .slots) vacant) a (first-says (hasId (h .«stream_id»)) (c .slots) vacant) in
     true-not-false (is-listed (h .«stream_id») (entry (c .slots) j) (f .1)) l
 
 pub frames-pass-stale : FramesPassStale

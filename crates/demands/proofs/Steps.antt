@@ -118,9 +118,17 @@ accepted-settings s c e =
     let n = fine (leb (s .«max_num_streams») (s .slots)) setting.Slots _ c (k .1) in
     let q = fine (leb (s .pool) 4294967295) setting.Pool _ c (n .1) in
     let w = both (leb 1 (s .slots)) (leb (s .slots) 1024) (k .0) in
+    let part = both (leb 1 (s .split)) (leb (s .split) 4294967295) (p .0) in
+    let each = both (leb 1 (s .interval)) (leb (s .interval) lastTime) (t .0) in
     subst Allowed (fine-is (configOf s) c (q .1)) (record {
       streams = leb-true _ _ (m .0);
       least = leb-true _ _ (l .0);
+      splits = leb-true _ _ (part .0);
+      split = leb-true _ _ (part .1);
+      intervals = leb-true _ _ (each .0);
+      interval = leb-true _ _ (each .1);
+      first-time = leb-true _ _ (first .0);
+      first-id = leb-true _ _ (id .0);
       some = leb-true _ _ (w .0);
       many = leb-true _ _ (w .1);
       enough = leb-true _ _ (n .0);

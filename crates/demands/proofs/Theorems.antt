@@ -164,7 +164,7 @@ pub only-done-gives : OnlyDoneGives
 only-done-gives c r k = sound c (reached r) k .silent
 
 pub settings-are-allowed : SettingsAreAllowed
-settings-are-allowed c r = let a = reached r .allowed in (a .streams, a .some, a .many, a .enough, a .pool)
+settings-are-allowed c r = let a = reached r .allowed in (a .streams, a .least, a .splits, a .split, a .intervals, a .interval, a .first-time, a .first-id, a .some, a .many, a .enough, a .pool)
 
 pub settings-stay : SettingsStay
 settings-stay c r k = sound c (reached r) k .config

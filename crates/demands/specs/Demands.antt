@@ -1,6 +1,6 @@
--- The words of the demands. Sentences are document 01's.
+-- The words of the demands. Sentences in quotes are document 01's.
 use mathlib.Core.Path.{_≡_}
-use mathlib.Core.Bool.{Bool, true, false, cond, not}
+use mathlib.Core.Bool.{Bool, false, cond, not}
 use mathlib.Core.List.{List}
 use Prim.Native.Nat.{ℕ}
 use lib.ListN.{length}

@@ -1,4 +1,4 @@
--- A handle that is still held after its stream was reset, and its number opened again. Sentences are document 01's.
+-- A handle that is still held after its stream was reset, and its number opened again. Sentences in quotes are document 01's.
 use mathlib.Core.Path.{_≡_}
 use mathlib.Core.Logic.{_≢_, _⊎_}
 use mathlib.Core.Bool.{true, false}
@@ -13,9 +13,10 @@ use Rattle.stream.specs.declared.Sent.the-variants.{Nothing}
 use Rattle.rules.specs.declared.Reply.the-variants as reply
 use Rattle.rules.specs.declared.Which.the-variants as which
 use Rattle.rules.specs.declared.Value.the-variants as value
+use Rattle.rules.specs.Replies.{Outcome}
 use Rattle.rules.specs.Settings.{lastTime}
 use Rattle.rules.specs.Lists.{at}
-use Rattle.rules.specs.State.{Conn, vacant, entry, withSlot, find}
+use Rattle.rules.specs.State.{Entry, Conn, vacant, entry, withSlot, withSlots, withGrowth, find}
 use Rattle.rules.specs.Ending.{gives, refuse}
 use Rattle.rules.specs.Calls.{growthOf, onSlot, readEntry, removedEntry, dropWakes}
 use Rattle.rules.specs.Step.{step}
@@ -50,6 +51,23 @@ StaleClose =
     (c : Conn) (old new : ℕ) → Stale c old new → (now : ℕ) → now ≤ lastTime →
     step c (rules.close now old) ≡ gives (onSlot old reply.Done value.None Nothing []) c
 
+-- Of the connection, the growth figure and the slots alone change.
+abbrev pub OnlySlots : Conn → Conn → Type 0
+OnlySlots c d = d ≡ withSlots (withGrowth c (d .growth)) (d .slots)
+
+-- The answer to a drop of slot i that takes the stream of e out of the table: "if it was Open, RST is given; RecvClosed gives FIN,
+-- else none; its reader and writer are woken".
+abbrev pub removes : ℕ → Entry → Outcome
+removes i e = record {
+  reply = reply.Done;
+  slot = which.At (record { 0 = i });
+  value = value.None;
+  header = dropped (e .stream) .sent;
+  body = [];
+  wakes = dropWakes (dropped (e .stream) .wakes);
+  bytes = [];
+}
+
 -- "A stale handle so removes a newer stream." Drop on the old handle frees its slot, and takes the newer stream out of the table:
 -- that one is Closed, its RST or FIN is given, its waits are woken, and its handle keeps its bytes and its windows. The figure
 -- falls by the old handle's own growth alone. No other slot changes.
@@ -58,36 +76,37 @@ StaleDrop =
     (c : Conn) (old new : ℕ) → Stale c old new → (now : ℕ) → now ≤ lastTime →
     let r = step c (rules.drop now old) in
     let e = entry (c .slots) new in
-    (r .outcome ≡ record {
-      reply = reply.Done;
-      slot = which.At (record { 0 = old });
-      value = value.None;
-      header = dropped (e .stream) .sent;
-      body = [];
-      wakes = dropWakes (dropped (e .stream) .wakes);
-      bytes = [];
-    })
+    (r .outcome ≡ removes old e)
+    × OnlySlots c (r .after)
     × (r .after .growth ≡ c .growth - growthOf (entry (c .slots) old))
     × (entry (r .after .slots) old ≡ vacant)
     × (entry (r .after .slots) new ≡ removedEntry e)
     × ((j : ℕ) → j ≢ old → j ≢ new → entry (r .after .slots) j ≡ entry (c .slots) j)
 
--- The newer handle, dropped after that: no frame, and its own growth goes back, once.
+-- The newer handle, dropped after that: no frame and no wake, its own growth goes back, once, and both slots are free. No other
+-- slot changes.
 abbrev pub StaleDropThenNew : Type 0
 StaleDropThenNew =
     (c : Conn) (old new : ℕ) → Stale c old new → (now later : ℕ) → now ≤ lastTime → later ≤ lastTime →
     let d = step c (rules.drop now old) .after in
     let r = step d (rules.drop later new) in
     (r .outcome ≡ onSlot new reply.Done value.None Nothing [])
+    × OnlySlots c (r .after)
     × (r .after .growth ≡ c .growth - growthOf (entry (c .slots) old) - growthOf (entry (c .slots) new))
+    × (entry (r .after .slots) old ≡ vacant)
+    × (entry (r .after .slots) new ≡ vacant)
+    × ((j : ℕ) → j ≢ old → j ≢ new → entry (r .after .slots) j ≡ entry (c .slots) j)
 
--- Drop on the newer handle while the old one is held: the newer stream alone goes, as if the old one were not there.
+-- Drop on the newer handle while the old one is held: the newer stream alone goes, as if the old one were not there. Its RST or
+-- FIN is given, its waits are woken, its slot is free, and the figure falls by its own growth. No other slot changes, the old
+-- handle's among them.
 abbrev pub NewDrop : Type 0
 NewDrop =
     (c : Conn) (old new : ℕ) → Stale c old new → (now : ℕ) → now ≤ lastTime →
     let r = step c (rules.drop now new) in
     let e = entry (c .slots) new in
-    (r .outcome .header ≡ dropped (e .stream) .sent)
+    (r .outcome ≡ removes new e)
+    × OnlySlots c (r .after)
     × (r .after .growth ≡ c .growth - growthOf e)
     × (entry (r .after .slots) new ≡ vacant)
     × ((j : ℕ) → j ≢ new → entry (r .after .slots) j ≡ entry (c .slots) j)

@@ -4,4 +4,5 @@ pub mod History
 pub mod Theorems
 pub mod Handles
 pub mod Progress
+pub mod Waits
 pub mod Witnesses

@@ -191,12 +191,14 @@ OnlyDoneGives =
     (c : Conn) → Reach c → (k : rules.Call) → mayGive (step c k .outcome .reply) ≡ false →
     (step c k .outcome .header ≡ Nothing) × (step c k .outcome .body ≡ []) × (step c k .outcome .bytes ≡ [])
 
--- The settings of a connection are those of document 01's section on them.
+-- A connection's settings are within the bounds of document 01, its limit being at most 2^64-1 by its type.
 abbrev pub SettingsAreAllowed : Type 0
 SettingsAreAllowed =
     (c : Conn) → Reach c →
-    (c .config .«max_num_streams» ≤ 512) × (1 ≤ c .config .slots) × (c .config .slots ≤ 1024)
-    × (c .config .«max_num_streams» ≤ c .config .slots) × (c .config .pool ≤ top)
+    let s = c .config in
+    (s .«max_num_streams» ≤ 512) × (s .«max_num_streams» * initialWindow ≤ s .limit) × (1 ≤ s .split) × (s .split ≤ top)
+    × (1 ≤ s .interval) × (s .interval ≤ lastTime) × (s .«first_time» ≤ lastTime) × (s .«first_id» ≤ top)
+    × (1 ≤ s .slots) × (s .slots ≤ 1024) × (s .«max_num_streams» ≤ s .slots) × (s .pool ≤ top)
 
 -- A connection keeps the settings that it was made with.
 abbrev pub SettingsStay : Type 0

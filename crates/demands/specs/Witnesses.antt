@@ -1,14 +1,16 @@
 -- Runs that the theorems speak of, by computation: that the demands are not met by doing nothing, and that their conditions are
 -- needed.
 use mathlib.Core.Path.{_≡_}
+use mathlib.Core.Bool.{true, false}
 use mathlib.Core.List.{List, [], _∷_, _++_, map}
 use Prim.Native.Nat.{ℕ, zero, suc, _+_, _/_, _%_}
 use lib.ListN.{replicate}
 use Rattle.rules.specs.declared.Settings.{Settings}
+use Rattle.rules.specs.declared.Which.the-variants as which
 use Rattle.rules.specs.Settings.{configOf}
-use Rattle.rules.specs.Replies.{Outcome, number}
+use Rattle.rules.specs.Replies.{Outcome, number, noWakes}
 use Rattle.rules.specs.State.{Conn, entry, initial}
-use Rattle.rules.specs.Step.{run}
+use Rattle.rules.specs.Step.{step, run}
 use Rattle.rules.specs.Step as rules
 
 -- ---- the runs' words
@@ -82,6 +84,21 @@ growsAndDrops = growsAndResets ++ (rules.drop 2021 0 ∷ [])
 abbrev pub stales : List rules.Call
 stales = synData 0 2 3 ∷ reset 0 2 ∷ synData 0 2 5 ∷ []
 
+-- ---- waits
+
+-- the newer of those two is read out, and its reader waits
+abbrev pub staleWaits : List rules.Call
+staleWaits = stales ++ (rules.read 0 1 5 ∷ rules.read 0 1 1 ∷ [])
+
+-- n writes of 16,384 bytes on slot 0
+abbrev pub writes : ℕ → List rules.Call
+writes zero = []
+writes (suc n) = rules.write 0 0 (zeros 16384) ∷ writes n
+
+-- a writer waits once 16 of them have used up the window; a close and a FIN then take its stream out of the table, mark and all
+abbrev pub keepsMark : List rules.Call
+keepsMark = synData 0 2 0 ∷ (writes 17 ++ (rules.close 0 0 ∷ rules.frame 0 (head 0 4 2 0) [] ∷ []))
+
 -- ---- long runs
 
 -- round k: Data with two bytes that tell the round, and a read
@@ -147,6 +164,13 @@ Runs =
     × (entry (ran (client 4 2097152 4 4294967295) grows .after .slots) 0 .stream .flow .«receive_window» ≡ 524288)
     -- of a limit of M x 262,144 and 1,000 more, growth has the 1,000
     × (ran (client 4 1049576 4 4294967295) grows .after .growth ≡ 1000)
+    -- a drop of the stale handle tells its own slot and the newer stream's reader
+    × (step (ran (client 2 1048576 2 64) staleWaits .after) (rules.drop 0 0) .outcome .slot ≡ which.At (record { 0 = 0 }))
+    × (step (ran (client 2 1048576 2 64) staleWaits .after) (rules.drop 0 0) .outcome .wakes .reader ≡ true)
+    -- a mark outside the table goes with the handle, and is not told
+    × (entry (ran (client 2 1048576 2 64) keepsMark .after .slots) 0 .listed ≡ false)
+    × (entry (ran (client 2 1048576 2 64) keepsMark .after .slots) 0 .stream .writer ≡ true)
+    × (step (ran (client 2 1048576 2 64) keepsMark .after) (rules.drop 0 0) .outcome .wakes ≡ noWakes)
     -- a hundred rounds, each delivered as it was sent
     × (given (ran (client 4 1048576 4 64) (synData 0 2 0 ∷ rounds 100) .outcomes) ≡ [] ∷ echoes 100)
     -- no fixed reply

@@ -1,5 +1,5 @@
 -- Laws of the windows: what a change leaves, and what the window step keeps. Assumes nothing.
-use mathlib.Core.Path.{_≡_, refl}
+use mathlib.Core.Path.{_≡_, refl, sym, _∙_}
 use mathlib.Core.Bool.{Bool, true, false, cond}
 use Prim.Native.Nat.{ℕ, _+_, _-_, _*_, _≤_}
 use lib.Dec.{eqb}
@@ -9,14 +9,15 @@ use Rattle.frame.specs.Header.{initialWindow}
 use Rattle.frame.specs.declared.header.Credit.{Credit}
 use Rattle.rtt.specs.declared.RoundTrip.{RoundTrip}
 use Rattle.flow_control.specs.Windows.{top, credit, due, paceOf, budget, newMaximum, granted}
-use Rattle.flow_control.specs.Windows.{paced, isDue, nextWindowUpdate, withReceive}
+use Rattle.flow_control.specs.Windows.{paced, isDue, nextWindowUpdate, withReceive, settled}
 use Rattle.flow_control.specs.declared.FlowController.{FlowController}
 use Rattle.flow_control.specs.declared.Pace.{Pace}
 use Rattle.flow_control.specs.declared.Pace.the-variants.{Unmeasured, Late, Early}
 use Rattle.flow_control.specs.declared.Update.{Update}
 use Rattle.flow_control.specs.declared.Update.the-variants as update
 use Rattle.flow_control.specs.declared.Stepped.{Stepped}
-use Rattle.flow_control.specs.declared.Changed.the-variants.{Done, InvalidWindowUpdate}
+use Rattle.flow_control.specs.declared.Verdict.the-variants.{Done, InvalidWindowUpdate}
+use Rattle.flow_control.specs.declared.Settled.{Settled}
 
 -- the remote may send no more than the maximum leaves beside what is unread
 abbrev pub Room : FlowController → ℕ → Type 0
@@ -140,13 +141,16 @@ module _ (f : FlowController) (unread now : ℕ) (rt : RoundTrip) (limit m growt
 
 -- ---- consume and increase
 
-pub done : (b : Bool) (f g : FlowController) → cond b (Done f) InvalidWindowUpdate ≡ Done g → (b ≡ true) × (g ≡ f)
-done true f g e = (refl, cc)
-done false f g e = (cc, cc)
+abbrev checked : Bool → FlowController → FlowController → Settled
+checked b f g = cond b (settled f Done) (settled g InvalidWindowUpdate)
 
-pub refused : (b : Bool) (f : FlowController) → cond b (Done f) InvalidWindowUpdate ≡ InvalidWindowUpdate → b ≡ false
-refused true f e = cc
-refused false f e = refl
+pub done : (b : Bool) (f g : FlowController) (s : Settled) → s ≡ checked b f g → s .verdict ≡ Done → (b ≡ true) × (s .flow ≡ f)
+done true f g s e v = (refl, λ i. e i .flow)
+done false f g s e v = let z : InvalidWindowUpdate ≡ Done = sym (λ i. e i .verdict) ∙ v in (cc, cc)
+
+pub refused : (b : Bool) (f g : FlowController) (s : Settled) → s ≡ checked b f g → s .verdict ≡ InvalidWindowUpdate → b ≡ false
+refused true f g s e v = let z : Done ≡ InvalidWindowUpdate = sym (λ i. e i .verdict) ∙ v in cc
+refused false f g s e v = refl
 
 -- a body that is queued takes from the window what it adds to the unread bytes
 pub consumed-room :

@@ -1,2 +1,3 @@
 -- Document 01, "Windows and pings": the sentences on windows.
 pub mod Windows
+pub mod Lent

@@ -13,8 +13,9 @@ use Rattle.flow_control.specs.declared.Pace.the-variants.{Unmeasured, La
 use Rattle.flow_control.specs.declared.Update.{Update}
 use Rattle.flow_control.specs.declared.Update.the-variants as update
 use Rattle.flow_control.specs.declared.Stepped.{Stepped}
-use Rattle.flow_control.specs.declared.Changed.{Changed}
-use Rattle.flow_control.specs.declared.Changed.the-variants.{Done, InvalidWindowUpdate}
+use Rattle.flow_control.specs.declared.Verdict.{Verdict}
+use Rattle.flow_control.specs.declared.Verdict.the-variants.{Done, InvalidWindowUpdate}
+use Rattle.flow_control.specs.declared.Settled.{Settled}
 
 -- the largest number of 32 bits
 abbrev pub top : ℕ
@@ -111,14 +112,24 @@ withReceive f n = record {
   «send_window» = f .«send_window»;
 }
 
+-- a window takes a change, or leaves all as it was
+abbrev pub settled : FlowController → Verdict → Settled
+settled f v = record { flow = f; verdict = v }
+
 -- "the window falls by n", n being at most the window
-abbrev pub consumeSend : FlowController → ℕ → Changed
-consumeSend f n = cond (leb n (f .«send_window»)) (Done (withSend f (f .«send_window» - n))) InvalidWindowUpdate
+abbrev pub consumeSend : FlowController → ℕ → Settled
+consumeSend f n = cond (leb n (f .«send_window»)) (settled (withSend f (f .«send_window» - n)) Done) (settled f InvalidWindowUpdate)
 
 -- "send window past 2^32-1, code 1; else credit added"
-abbrev pub increaseSend : FlowController → Credit → Changed
-increaseSend f c = cond (leb (f .«send_window» + c .0) top) (Done (withSend f (f .«send_window» + c .0))) InvalidWindowUpdate
+abbrev pub increaseSend : FlowController → Credit → Settled
+increaseSend f c =
+    cond (leb (f .«send_window» + c .0) top)
+    (settled (withSend f (f .«send_window» + c .0)) Done)
+    (settled f InvalidWindowUpdate)
 
 -- "body above the receive window, code 1. Else the window falls by the body"
-abbrev pub consumeReceive : FlowController → ℕ → Changed
-consumeReceive f n = cond (leb n (f .«receive_window»)) (Done (withReceive f (f .«receive_window» - n))) InvalidWindowUpdate
+abbrev pub consumeReceive : FlowController → ℕ → Settled
+consumeReceive f n =
+    cond (leb n (f .«receive_window»))
+    (settled (withReceive f (f .«receive_window» - n)) Done)
+    (settled f InvalidWindowUpdate)

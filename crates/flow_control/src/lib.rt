@@ -1,4 +1,6 @@
 // The windows of one stream: what the remote may still send, what we may, and when the remote is granted more.
+pub mod lent;
+
 ghost use mathlib.Core.Path.{_≡_};
 ghost use Prim.Native.Nat.{_+_, _≤_, min};
 ghost use Rattle.flow_control.specs.Windows.{fresh, due, paceOf, budget, newMaximum, granted, grow, nextWindowUpdate};
@@ -37,10 +39,16 @@ pub struct Stepped {
     pub update: Update,
 }
 
-// A window that changed, or a change that it cannot take.
-pub enum Changed {
-    Done(FlowController),
+// Whether a window took a change.
+pub enum Verdict {
+    Done,
     InvalidWindowUpdate,
+}
+
+// The flow state after a change; as it was where a window cannot take it.
+pub struct Settled {
+    pub flow: FlowController,
+    pub verdict: Verdict,
 }
 
 // Whether fewer than two round trips have passed since `noted`.
@@ -155,7 +163,7 @@ impl FlowController {
     }
 
     // The credit due to the remote, and the windows and growth figure after it. Less than half of the maximum is not worth a frame.
-    pub fn next_window_update(
+    fn window_updated(
         self,
         buffer_len: u32,
         now: u64,
@@ -199,45 +207,66 @@ impl FlowController {
         }
     }
 
-    pub fn consume_send_window(self, i: u32) -> Changed
+    fn send_consumed(self, i: u32) -> Settled
         ensures { λ r. ⌜ r ≡ consumeSend self i ⌝ }
     {
         if self.send_window < i {
-            return Changed::InvalidWindowUpdate;
+            return Settled {
+                flow: self,
+                verdict: Verdict::InvalidWindowUpdate,
+            };
         }
-        Changed::Done(FlowController {
+        let flow = FlowController {
             last_window_update: self.last_window_update,
             receive_window: self.receive_window,
             max_receive_window: self.max_receive_window,
             send_window: self.send_window - i,
-        })
+        };
+        Settled {
+            flow,
+            verdict: Verdict::Done,
+        }
     }
 
-    pub fn increase_send_window_by(self, i: Credit) -> Changed
+    fn send_increased(self, i: Credit) -> Settled
         ensures { λ r. ⌜ r ≡ increaseSend self i ⌝ }
     {
         if 4294967295 - self.send_window < i.0 {
-            return Changed::InvalidWindowUpdate;
+            return Settled {
+                flow: self,
+                verdict: Verdict::InvalidWindowUpdate,
+            };
         }
-        Changed::Done(FlowController {
+        let flow = FlowController {
             last_window_update: self.last_window_update,
             receive_window: self.receive_window,
             max_receive_window: self.max_receive_window,
             send_window: self.send_window + i.0,
-        })
+        };
+        Settled {
+            flow,
+            verdict: Verdict::Done,
+        }
     }
 
-    pub fn consume_receive_window(self, i: u32) -> Changed
+    fn receive_consumed(self, i: u32) -> Settled
         ensures { λ r. ⌜ r ≡ consumeReceive self i ⌝ }
     {
         if self.receive_window < i {
-            return Changed::InvalidWindowUpdate;
+            return Settled {
+                flow: self,
+                verdict: Verdict::InvalidWindowUpdate,
+            };
         }
-        Changed::Done(FlowController {
+        let flow = FlowController {
             last_window_update: self.last_window_update,
             receive_window: self.receive_window - i,
             max_receive_window: self.max_receive_window,
             send_window: self.send_window,
-        })
+        };
+        Settled {
+            flow,
+            verdict: Verdict::Done,
+        }
     }
 }

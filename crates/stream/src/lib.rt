@@ -7,10 +7,11 @@ ghost use mathlib.Core.Path.{_≡_};
 ghost use Rattle.frame.specs.Header.{windowUpdateHeader};
 ghost use Rattle.stream.specs.Streams.{made, newInbound, newOutbound, onData, onWindowUpdate, reset, acknowledged};
 ghost use Rattle.stream.specs.Streams.{addFlag, updateFrame, stepTaken, sendWindowUpdate, readEnd};
-use flow_control::Changed;
 use flow_control::FlowController;
 use flow_control::Stepped;
 use flow_control::Update;
+use flow_control::Verdict;
+use flow_control::lent;
 use frame::header::Credit;
 use frame::header::DEFAULT_CREDIT;
 use frame::header::Header;
@@ -136,10 +137,12 @@ impl Stream {
     pub fn on_data(self, body_len: u32, fin: bool) -> Received
         ensures { λ r. ⌜ r ≡ onData self «body_len» fin ⌝ }
     {
-        let changed = self.flow.consume_receive_window(body_len);
-        let Changed::Done(flow) = changed else {
+        let settled = lent::after_body(self.flow, body_len);
+        let verdict = settled.verdict;
+        let Verdict::Done = verdict else {
             return Received::ProtocolError;
         };
+        let flow = settled.flow;
         let state = self.state;
         let next = state.finish(fin);
         let stream = self.with_state(next)
@@ -158,10 +161,12 @@ impl Stream {
     pub fn on_window_update(self, credit: Credit, fin: bool) -> Received
         ensures { λ r. ⌜ r ≡ onWindowUpdate self credit fin ⌝ }
     {
-        let changed = self.flow.increase_send_window_by(credit);
-        let Changed::Done(flow) = changed else {
+        let settled = lent::after_credit(self.flow, credit);
+        let verdict = settled.verdict;
+        let Verdict::Done = verdict else {
             return Received::ProtocolError;
         };
+        let flow = settled.flow;
         let state = self.state;
         let next = state.finish(fin);
         let stream = self.with_state(next).with_flow(flow);
@@ -270,8 +275,8 @@ impl Stream {
                 sent: Sent::Nothing,
             };
         }
-        let flow = self.flow;
-        let stepped = flow.next_window_update(
+        let stepped = lent::after_read(
+            self.flow,
             unread,
             now,
             round_trip,

@@ -9,7 +9,8 @@ use crate::Sent;
 use crate::State;
 use crate::Stream;
 use crate::Written;
-use flow_control::Changed;
+use flow_control::Verdict;
+use flow_control::lent;
 use frame::header::Header;
 use frame::header::Len;
 
@@ -37,11 +38,13 @@ impl Stream {
         requires { ⌜ n ≤ self .flow .«send_window» ⌝ }
         ensures { λ r. ⌜ r ≡ writeTaken self n ⌝ }
     {
-        let changed = self.flow.consume_send_window(n);
-        let Changed::Done(flow) = changed else {
+        let settled = lent::after_send(self.flow, n);
+        let verdict = settled.verdict;
+        let Verdict::Done = verdict else {
             // Never: n is at most the window.
             return Written::Closed;
         };
+        let flow = settled.flow;
         let flag = self.flag;
         let header = Header::data(self.id, Len(n));
         let header = flag.add_to(header);

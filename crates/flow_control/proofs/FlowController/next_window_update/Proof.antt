@@ -1,73 +1,24 @@
--- `flow_control::FlowController::next_window_update` meets its contract. Assumes nothing.
-use mathlib.Core.Path.{sym, _∙_}
-use borrow.Author.Tests.{lt-leb, le-leb}
-use borrow.Author.Needs.{needs}
-use Rattle.flow_control.proofs.FlowController.next_window_update.Statement.{statement}
-use Rattle.flow_control.proofs.FlowController.next_window_update.Tie as tie
+-- `flow_control::FlowController::next_window_update` meets its contract: the walk of `Method.antt`, over `moved`.
+-- Assumes nothing.
+use contract.Running.{givenOf, tables, tablesOf}
+use denote.Triple.Table.{entered, cited}
+use Rattle.flow_control.specs.Lent as change
+use Rattle.flow_control.proofs.Changes.{reading, granted, moved, Valued, Lent}
+use Rattle.flow_control.proofs.Method.{method-meets}
+use Rattle.flow_control.proofs.FlowController.moved.Symbol as valued
+use Rattle.flow_control.proofs.FlowController.moved.Met as valued-thm
+use Rattle.flow_control.proofs.FlowController.next_window_update.Key as key
+use Rattle.flow_control.proofs.FlowController.next_window_update.Statement as stated
+use Rattle.flow_control.proofs.FlowController.next_window_update.Code as code
 
-due-requires : tie.Need-due-requires
-due-requires c κs = search needs
-
-returns : tie.Need-returns
-returns c = rw (lt-leb _ _ (rw (c .before .before .due .ensures) at (c .if1 .taken)))
-
-pace-of-requires : tie.Need-pace-of-requires
-pace-of-requires c κs = search needs
-
-enum-told : tie.Need-enum-told
-enum-told c = search needs
-
-granted-requires : tie.Need-granted-requires
-granted-requires c κs = search needs
-
-enum-told-2 : tie.Need-enum-told-2
-enum-told-2 c = search needs
-
-granted-requires-2 : tie.Need-granted-requires-2
-granted-requires-2 c κs = search needs
-
-enum-told-3 : tie.Need-enum-told-3
-enum-told-3 c = search needs
-
-budget-requires : tie.Need-budget-requires
-budget-requires c κs = search needs
-
-grow-requires : tie.Need-grow-requires
-grow-requires c κs = search needs
-
-returns-2 : tie.Need-returns-2
-returns-2 c =
-    let p = c .before .before .before in
-    let d = p .before .before .before .due .ensures in
-    rw (c .granted .ensures, d, le-leb _ _ (rw d at (p .before .if1 .left)), sym (p .pace-of .ensures) ∙ c .before .enum-told .given .1)
-
-returns-3 : tie.Need-returns-3
-returns-3 c =
-    let p = c .before .before .before in
-    let d = p .before .before .before .due .ensures in
-    rw (c .granted2 .ensures, d, le-leb _ _ (rw d at (p .before .if1 .left)), sym (p .pace-of .ensures) ∙ c .before .enum-told2 .given .1)
-
-returns-4 : tie.Need-returns-4
-returns-4 c =
-    let p = c .before .before .before .before in
-    let d = p .before .before .before .due .ensures in
-    let due = le-leb _ _ (rw d at (p .before .if1 .left)) in
-    rw (c .grow .ensures, c .before .budget .ensures, due, sym (p .pace-of .ensures) ∙ c .before .before .enum-told3 .given .1)
-
-pub next-window-update-spec : {M : Type 1} → statement M
-next-window-update-spec =
-    tie.close
-    (tie.spec
-    due-requires
-    returns
-    pace-of-requires
-    enum-told
-    granted-requires
-    enum-told-2
-    granted-requires-2
-    enum-told-3
-    budget-requires
-    grow-requires
-    returns-2
-    returns-3
-    returns-4)
+pub next-window-update-spec : {M : Type 1} → stated.statement M
+unfolding code.routine tablesOf
+next-window-update-spec 𝓤 H 𝓜 𝓖 𝓡 =
+    let A = 𝓖 .A in
+    let W = givenOf 𝓤 H 𝓜 𝓖 in
+    let P = reading 𝓤 H A W in
+    let N = granted 𝓤 H A W in
+    let S = moved 𝓤 H A W in
+    entered 𝓤 H (Lent 𝓤 H A P N S change.moved) (tables 𝓤 H 𝓜 𝓡 code.env .C) (tables 𝓤 H 𝓜 𝓡 code.env .Λ) key.name code.function (code.unfolded 𝓤 H 𝓜 𝓡)
+    (method-meets 𝓤 H A W P N S change.moved (tablesOf 𝓤 H 𝓜 (tables 𝓤 H 𝓜 𝓡 code.env)) valued.name
+    (cited 𝓤 H (Valued 𝓤 H A P N S change.moved) 𝓜 𝓡 code.env valued.name valued.routine code.calls-flow-control·FlowController·moved (valued-thm.met 𝓤 H 𝓜 𝓖 𝓡)))

@@ -1,26 +1,25 @@
 -- `stream::Stream::on_data` meets its contract. Assumes nothing.
 use lib.Dec.{leb}
-use mathlib.Core.Path.{sym, _∙_}
 use borrow.Author.Needs.{needs}
 use Rattle.flow_control.proofs.Laws.{done, refused}
 use Rattle.stream.proofs.Stream.on_data.Statement.{statement}
 use Rattle.stream.proofs.Stream.on_data.Tie as tie
 
-consume-receive-window-requires : tie.Need-consume-receive-window-requires
-consume-receive-window-requires c κs = search needs
-
-enum-known-changed : tie.Need-enum-known-changed
-enum-known-changed c = search needs
+after-body-requires : tie.Need-after-body-requires
+after-body-requires c κs = search needs
 
 enum-told : tie.Need-enum-told
 enum-told c = search needs
+
+enum-told-2 : tie.Need-enum-told-2
+enum-told-2 c = search needs
 
 returns : tie.Need-returns
 returns c =
     let p = c .before .before in
     let a = p .before .args in
     let fits = leb (a .body-len) (a .self .flow .«receive_window») in
-    rw (refused fits _ (sym (p .consume-receive-window .ensures) ∙ c .enum-told .given .1))
+    rw (refused fits _ _ _ (p .after-body .ensures) (c .enum-told2 .given .1))
 
 finish-requires : tie.Need-finish-requires
 finish-requires c κs = search needs
@@ -40,16 +39,16 @@ returns-2 c =
     let p = w .before .before .before in
     let a = p .before .before .before .args in
     let fits = leb (a .body-len) (a .self .flow .«receive_window») in
-    let d = done fits _ _ (sym (p .before .before .consume-receive-window .ensures) ∙ p .changed .given .1) in
+    let d = done fits _ _ _ (p .before .before .after-body .ensures) (p .enum-told .given .1) in
     rw (d .0, c .with-flow .ensures, c .before .with-waits .ensures, w .with-state .ensures, w .before .finish .ensures, d .1)
 
 pub on-data-spec : {M : Type 1} → statement M
 on-data-spec =
     tie.close
     (tie.spec
-    consume-receive-window-requires
-    enum-known-changed
+    after-body-requires
     enum-told
+    enum-told-2
     returns
     finish-requires
     with-state-requires

@@ -1,28 +1,27 @@
 -- `stream::Stream::on_window_update` meets its contract. Assumes nothing.
 use Prim.Native.Nat.{_+_}
 use lib.Dec.{leb}
-use mathlib.Core.Path.{sym, _∙_}
 use borrow.Author.Needs.{needs}
 use Rattle.flow_control.specs.Windows.{top}
 use Rattle.flow_control.proofs.Laws.{done, refused}
 use Rattle.stream.proofs.Stream.on_window_update.Statement.{statement}
 use Rattle.stream.proofs.Stream.on_window_update.Tie as tie
 
-increase-send-window-by-requires : tie.Need-increase-send-window-by-requires
-increase-send-window-by-requires c κs = search needs
-
-enum-known-changed : tie.Need-enum-known-changed
-enum-known-changed c = search needs
+after-credit-requires : tie.Need-after-credit-requires
+after-credit-requires c κs = search needs
 
 enum-told : tie.Need-enum-told
 enum-told c = search needs
+
+enum-told-2 : tie.Need-enum-told-2
+enum-told-2 c = search needs
 
 returns : tie.Need-returns
 returns c =
     let p = c .before .before in
     let a = p .before .args in
     let fits = leb (a .self .flow .«send_window» + a .credit .0) top in
-    rw (refused fits _ (sym (p .increase-send-window-by .ensures) ∙ c .enum-told .given .1))
+    rw (refused fits _ _ _ (p .after-credit .ensures) (c .enum-told2 .given .1))
 
 finish-requires : tie.Need-finish-requires
 finish-requires c κs = search needs
@@ -42,7 +41,7 @@ returns-2 c =
     let p = w .before .before .before .before in
     let a = p .before .before .before .args in
     let fits = leb (a .self .flow .«send_window» + a .credit .0) top in
-    let d = done fits _ _ (sym (p .before .before .increase-send-window-by .ensures) ∙ p .changed .given .1) in
+    let d = done fits _ _ _ (p .before .before .after-credit .ensures) (p .enum-told .given .1) in
     let stream = w .before .with-state .ensures in
     rw (d .0, c .with-waits .ensures, w .with-flow .ensures, stream, w .before .before .finish .ensures, d .1, c .before .if1 .taken)
 
@@ -55,7 +54,7 @@ returns-3 c =
     let p = w .before .before .before .before in
     let a = p .before .before .before .args in
     let fits = leb (a .self .flow .«send_window» + a .credit .0) top in
-    let d = done fits _ _ (sym (p .before .before .increase-send-window-by .ensures) ∙ p .changed .given .1) in
+    let d = done fits _ _ _ (p .before .before .after-credit .ensures) (p .enum-told .given .1) in
     let stream = w .before .with-state .ensures in
     rw (d .0, c .with-waits2 .ensures, w .with-flow .ensures, stream, w .before .before .finish .ensures, d .1, c .before .if1 .left)
 
@@ -63,9 +62,9 @@ pub on-window-update-spec : {M : Type 1} → statement M
 on-window-update-spec =
     tie.close
     (tie.spec
-    increase-send-window-by-requires
-    enum-known-changed
+    after-credit-requires
     enum-told
+    enum-told-2
     returns
     finish-requires
     with-state-requires

@@ -14,19 +14,19 @@ returns c =
     let shut = sym (can .ensures) ∙ not-true (can .result) (c .if1 .taken) in
     rw shut
 
-next-window-update-requires : tie.Need-next-window-update-requires
-next-window-update-requires c κs = search needs
+after-read-requires : tie.Need-after-read-requires
+after-read-requires c κs = search needs
 
 step-taken-requires : tie.Need-step-taken-requires
 step-taken-requires c κs = search needs
 
 returns-2 : tie.Need-returns-2
 returns-2 c =
-    let can = c .before .before .before .before .can-read in
-    let free = sym (can .ensures) ∙ not-false (can .result) (c .before .before .before .if1 .left) in
-    rw (c .step-taken .ensures, c .before .next-window-update .ensures, free)
+    let can = c .before .before .before .can-read in
+    let free = sym (can .ensures) ∙ not-false (can .result) (c .before .before .if1 .left) in
+    rw (c .step-taken .ensures, c .before .after-read .ensures, free)
 
 pub send-window-update-spec : {M : Type 1} → statement M
 send-window-update-spec =
     tie.close
-    (tie.spec can-read-requires returns next-window-update-requires step-taken-requires returns-2)
+    (tie.spec can-read-requires returns after-read-requires step-taken-requires returns-2)

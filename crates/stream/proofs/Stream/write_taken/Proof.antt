@@ -8,20 +8,20 @@ use Rattle.flow_control.proofs.Laws.{done, refused}
 use Rattle.stream.proofs.Stream.write_taken.Statement.{statement}
 use Rattle.stream.proofs.Stream.write_taken.Tie as tie
 
-consume-send-window-requires : tie.Need-consume-send-window-requires
-consume-send-window-requires c κs = search needs
-
-enum-known-changed : tie.Need-enum-known-changed
-enum-known-changed c = search needs
+after-send-requires : tie.Need-after-send-requires
+after-send-requires c κs = search needs
 
 enum-told : tie.Need-enum-told
 enum-told c = search needs
+
+enum-told-2 : tie.Need-enum-told-2
+enum-told-2 c = search needs
 
 returns : tie.Need-returns
 returns c =
     let p = c .before .before in
     let a = p .before .args in
-    let none = refused _ _ (sym (p .consume-send-window .ensures) ∙ c .enum-told .given .1) in
+    let none = refused _ _ _ _ (p .after-send .ensures) (c .enum-told2 .given .1) in
     let over = leb-false (a .n) (a .self .flow .«send_window») none in
     absurd (omega arith)
 
@@ -50,7 +50,7 @@ returns-2 c =
     let p = h .before .before .before in
     let a = p .before .before .before .args in
     let fits = leb (a .n) (a .self .flow .«send_window») in
-    let d = done fits _ _ (sym (p .before .before .consume-send-window .ensures) ∙ p .changed .given .1) in
+    let d = done fits _ _ _ (p .before .before .after-send .ensures) (p .enum-told .given .1) in
     let ack = sym (c .before .before .owes-ack .ensures) ∙ c .before .if1 .taken in
     let stream = w .before .with-flag .ensures in
     rw (c .acknowledge .ensures, w .with-flow .ensures, stream, h .add-to .ensures, h .before .«data» .ensures, d .1, ack)
@@ -62,7 +62,7 @@ returns-3 c =
     let p = h .before .before .before in
     let a = p .before .before .before .args in
     let fits = leb (a .n) (a .self .flow .«send_window») in
-    let d = done fits _ _ (sym (p .before .before .consume-send-window .ensures) ∙ p .changed .given .1) in
+    let d = done fits _ _ _ (p .before .before .after-send .ensures) (p .enum-told .given .1) in
     let none = sym (c .before .owes-ack .ensures) ∙ c .if1 .left in
     rw (w .with-flow .ensures, w .before .with-flag .ensures, h .add-to .ensures, h .before .«data» .ensures, d .1, none)
 
@@ -70,9 +70,9 @@ pub write-taken-spec : {M : Type 1} → statement M
 write-taken-spec =
     tie.close
     (tie.spec
-    consume-send-window-requires
-    enum-known-changed
+    after-send-requires
     enum-told
+    enum-told-2
     returns
     data-requires
     add-to-requires

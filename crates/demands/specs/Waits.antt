@@ -1,0 +1,106 @@
+-- "Woken means: cleared and reported if it was waiting. Only this or ending clears a wait." Sentences in quotes are document 01's.
+use mathlib.Core.Path.{_≡_}
+use mathlib.Core.Logic.{_⊎_}
+use mathlib.Core.Bool.{Bool, true, false}
+use Prim.Native.Nat.{ℕ}
+use Rattle.frame.specs.Wire.{decoded}
+use Rattle.frame.specs.declared.header.Decoded.{Decoded}
+use Rattle.frame.specs.declared.header.Decoded.the-variants as found
+use Rattle.stream.specs.declared.Stream.{Stream}
+use Rattle.rules.specs.declared.Which.the-variants as which
+use Rattle.rules.specs.Lists.{Place, at, nowhere}
+use Rattle.rules.specs.State.{Conn, entry, find}
+use Rattle.rules.specs.Step.{step}
+use Rattle.rules.specs.Step as rules
+use Rattle.demands.specs.Demands.{Reach}
+
+-- a mark that is on before a call and off after it
+abbrev pub Clears : Bool → Bool → Type 0
+Clears before after = (before ≡ true) × (after ≡ false)
+
+-- ---- whose waits a call wakes
+
+abbrev pub wokenDecoded : Decoded → Conn → Place
+wokenDecoded found.Size c = nowhere
+wokenDecoded (found.Version v) c = nowhere
+wokenDecoded (found.Type t) c = nowhere
+wokenDecoded (found.Header h) c = find (c .slots) (h .«stream_id»)
+
+-- A frame may wake the stream in the table that it names; a drop wakes the stream in the table that has the handle's number, which
+-- is the handle's own, or a newer one where the handle is stale. No other call wakes a reader or a writer.
+abbrev pub woken : Conn → rules.Call → Place
+woken c (rules.tick now) = nowhere
+woken c (rules.frame now head body) = wokenDecoded (decoded head) c
+woken c (rules.open-stream now) = nowhere
+woken c (rules.read now i asked) = nowhere
+woken c (rules.write now i given) = nowhere
+woken c (rules.close now i) = nowhere
+woken c (rules.drop now i) = find (c .slots) (entry (c .slots) i .stream .id)
+woken c (rules.gone now) = nowhere
+
+-- "slot (the call's; for a frame or open, the new or woken stream's)": the slot that a call which wakes the stream of slot j tells
+abbrev pub toldFor : rules.Call → ℕ → ℕ
+toldFor (rules.tick now) j = j
+toldFor (rules.frame now head body) j = j
+toldFor (rules.open-stream now) j = j
+toldFor (rules.read now i asked) j = i
+toldFor (rules.write now i given) j = i
+toldFor (rules.close now i) j = i
+toldFor (rules.drop now i) j = i
+toldFor (rules.gone now) j = j
+
+-- A drop of the handle of slot j, whose stream is outside the table: the slot is cleared whole, marks too (reading B6).
+abbrev pub DropsOutside : Conn → rules.Call → ℕ → Type 0
+DropsOutside c (rules.tick now) j = ⊥
+DropsOutside c (rules.frame now head body) j = ⊥
+DropsOutside c (rules.open-stream now) j = ⊥
+DropsOutside c (rules.read now i asked) j = ⊥
+DropsOutside c (rules.write now i given) j = ⊥
+DropsOutside c (rules.close now i) j = ⊥
+DropsOutside c (rules.drop now i) j = (i ≡ j) × (entry (c .slots) j .listed ≡ false)
+DropsOutside c (rules.gone now) j = ⊥
+
+-- ---- the statements
+
+-- How a wait of slot j that a call clears is told, `woke` being the answer's word on readers, or on writers: as that of the stream
+-- that the call wakes; or the call ended the connection; or it dropped the handle, whose stream was outside the table.
+abbrev pub Told : Conn → rules.Call → Bool → ℕ → Type 0
+Told c k woke j = ((woke ≡ true) × (woken c k ≡ at j)) ⊎ ((step c k .outcome .wakes .all ≡ true) ⊎ DropsOutside c k j)
+
+-- A wait that a call clears is reported.
+abbrev pub WaitsAreReported : Type 0
+WaitsAreReported =
+    (c : Conn) → Reach c → (k : rules.Call) →
+    let r = step c k in
+    let w = r .outcome .wakes in
+    (Clears (c .openWait) (r .after .openWait) → (w .opener ≡ true) ⊎ (w .all ≡ true))
+    × ((j : ℕ) → Clears (entry (c .slots) j .stream .reader) (entry (r .after .slots) j .stream .reader) → Told c k (w .reader) j)
+    × ((j : ℕ) → Clears (entry (c .slots) j .stream .writer) (entry (r .after .slots) j .stream .writer) → Told c k (w .writer) j)
+
+-- The stream that a call wakes had the mark, and has it no more. A frame tells that stream's slot, a drop its own.
+abbrev pub Waited : Conn → rules.Call → (Stream → Bool) → Type 0
+Waited c k mark =
+    (j : ℕ) × (woken c k ≡ at j) × (step c k .outcome .slot ≡ which.At (record { 0 = toldFor k j }))
+    × Clears (mark (entry (c .slots) j .stream)) (mark (entry (step c k .after .slots) j .stream))
+
+-- What is reported was waiting, and waits no more.
+abbrev pub ReportsAreOfWaits : Type 0
+ReportsAreOfWaits =
+    (c : Conn) → Reach c → (k : rules.Call) →
+    let r = step c k in
+    let w = r .outcome .wakes in
+    (w .opener ≡ true → Clears (c .openWait) (r .after .openWait))
+    × (w .reader ≡ true → Waited c k (λ s. s .reader))
+    × (w .writer ≡ true → Waited c k (λ s. s .writer))
+
+-- "Ending .. clears all waits"; "only a when this event ended the connection". The call that ends the connection, and no other,
+-- reports `all`, and that alone; no mark is on after it.
+abbrev pub EndingIsReported : Type 0
+EndingIsReported =
+    (c : Conn) → Reach c → (k : rules.Call) →
+    let r = step c k in
+    let w = r .outcome .wakes in
+    (c .ended ≡ false → r .after .ended ≡ true → w .all ≡ true)
+    × (w .all ≡ true → (c .ended ≡ false) × (r .after .ended ≡ true) × (w .reader ≡ false) × (w .writer ≡ false) × (w .opener ≡ false))
+    × (w .all ≡ true → r .after .openWait ≡ false)
+    × (w .all ≡ true → (j : ℕ) → (entry (r .after .slots) j .stream .reader ≡ false) × (entry (r .after .slots) j .stream .writer ≡ false))
