@@ -38,13 +38,15 @@ use Rattle.memory.specs.Slots.{slotsOf}
 use Rattle.memory.proofs.Laws.{never, find-slots}
 use Rattle.memory.proofs.Starts.{nothing-advances}
 use Rattle.connection.specs.Abstract.{absOf, Valid}
-use Rattle.connection.specs.Promises.{refused, gateOf, Follows, Promised}
+use Rattle.connection.specs.Promises.{refused, gateOf, Follows, Promised, Over}
+use Rattle.connection.proofs.Promises.{giving-leaves}
+use Rattle.connection.proofs.Tests.{gate-shut, gate-open}
 use Rattle.connection.specs.declared.Connection.{Connection}
 use Rattle.connection.specs.declared.Done.{Done}
 use Rattle.connection.specs.declared.Gate.the-variants as gate
 use Rattle.frames.specs.Shown.{isFound}
-use Rattle.frames.specs.Handles.{Handles, HandlesPing, Shuts, HandlesHeader, opened, HandlesOpened, HandlesDecoded, sized}
-use Rattle.frames.proofs.Settling.{no-refusal, refused-handles}
+use Rattle.frames.specs.Handles.{Handles, HandlesPing, HandlesHeader, opened, HandlesOpened, HandlesDecoded, sized}
+use Rattle.frames.proofs.Settling.{refused-handles, over-handles}
 use Rattle.frames.proofs.Arrives.{same-handles}
 
 -- ---- Ping
@@ -87,7 +89,7 @@ pub ping-handles : (c : Connection) (t : List ℕ) (h : Header) (now : ℕ) (f :
     → Handles (λ x. pingRules x h now) c t l p (heardIn c (onPing (c .rtt) (isFound f) h now (c .config .interval))) t l p
 ping-handles c t h now f finds l p = record {
   steps = follows;
-  refuses = λ e. never (sym e ∙ no-refusal (onPing (c .rtt) (isFound f) h now (c .config .interval) .answer .reply) (ping-gives (c .rtt) (isFound f) h now (c .config .interval)));
+  refuses = λ e. never (sym e ∙ giving-leaves (onPing (c .rtt) (isFound f) h now (c .config .interval) .answer .reply) (ping-gives (c .rtt) (isFound f) h now (c .config .interval)));
   silent = λ e. never (sym (ping-gives (c .rtt) (isFound f) h now (c .config .interval)) ∙ e);
 }
   where
@@ -120,9 +122,9 @@ module _ (c : Connection) (t l p : List ℕ) (h : Header) (body : List ℕ) (now
   unfolding frameRules
   ping-type f e = f l p
 
-  pub go-away-type : (t′ : List ℕ) → Shuts c t reply.Closed d t′ → ByType c t l p h body now d t′ l p tag.GoAway
+  pub go-away-type : (t′ : List ℕ) → Over c t reply.Closed d t′ → ByType c t l p h body now d t′ l p tag.GoAway
   unfolding frameRules
-  go-away-type t′ f e = f refl l p
+  go-away-type t′ over e = over-handles c t l p reply.Closed d t′ over refl
 
 -- ---- the body's length
 
@@ -138,35 +140,16 @@ module _ (c : Connection) (t l p : List ℕ) (h : Header) (body : List ℕ) (now
 
 -- ---- "10, 5 (ended)"
 
-module _ (x : Conn) (now : ℕ) (next : Result) where
-  gate-shut : (r : Reply) → gateOf (x .ended) now ≡ gate.Shut r → timed x now (live x next) ≡ refuse x r
-  gate-shut r e = go (ltb lastTime now) (x .ended) e
-    where
-      go : (a b : Bool) → cond a (gate.Shut reply.Time) (cond b (gate.Shut reply.Closed) gate.Open) ≡ gate.Shut r
-          → cond a (refuse x reply.Time) (cond b (refuse x reply.Closed) next) ≡ refuse x r
-      go true b h = let z : reply.Time ≡ r = cc in rw z
-      go false true h = let z : reply.Closed ≡ r = cc in rw z
-      go false false h = cc
-
-  gate-open : gateOf (x .ended) now ≡ gate.Open → timed x now (live x next) ≡ next
-  gate-open e = go (ltb lastTime now) (x .ended) e
-    where
-      go : (a b : Bool) → cond a (gate.Shut reply.Time) (cond b (gate.Shut reply.Closed) gate.Open) ≡ gate.Open
-          → cond a (refuse x reply.Time) (cond b (refuse x reply.Closed) next) ≡ next
-      go true b h = cc
-      go false true h = cc
-      go false false h = refl
-
 module _ (c : Connection) (t l p : List ℕ) (f : Decoded) (body : List ℕ) (now : ℕ) where
   pub shut-gate : (r : Reply) → gateOf (c .ended) now ≡ gate.Shut r → HandlesDecoded c t l p f body now (refused c r) t l p
   shut-gate r e =
       same-handles c t l p (λ x. refuse x r) (λ x. timed x now (live x (opened f x body now))) (refused c r) t l p
-      (λ v. gate-shut (absOf c t l p) now (opened f (absOf c t l p) body now) r e) (refused-handles c t l p r)
+      (λ v. gate-shut (absOf c t l p) (c .ended) now (opened f (absOf c t l p) body now) r e) (refused-handles c t l p r)
 
   pub open-gate : gateOf (c .ended) now ≡ gate.Open → (d : Done) (t′ l′ p′ : List ℕ) → HandlesOpened c t l p f body now d t′ l′ p′ → HandlesDecoded c t l p f body now d t′ l′ p′
   open-gate e d t′ l′ p′ =
       same-handles c t l p (λ x. opened f x body now) (λ x. timed x now (live x (opened f x body now))) d t′ l′ p′
-      (λ v. gate-open (absOf c t l p) now (opened f (absOf c t l p) body now) e)
+      (λ v. gate-open (absOf c t l p) (c .ended) now (opened f (absOf c t l p) body now) e)
 
 -- ---- the call
 

@@ -3,18 +3,14 @@ use mathlib.Core.Path.{_≡_, refl, sym, ap, _∙_}
 use mathlib.Core.Bool.{Bool, true, false}
 use mathlib.Core.List.{List, [], _++_, append-nil}
 use Prim.Native.Nat.{ℕ, _<_}
-use native.Mathlib.Decide.{ℕ-discrete}
 use native.Mathlib.Omega.{arith}
 use lib.ListN.{length, set}
-use lib.Seq.{getD-set-same, getD-set-other}
 use Rattle.frame.specs.declared.header.StreamId.{StreamId}
 use Rattle.stream.specs.declared.Stream.{Stream}
 use Rattle.rules.specs.State.{Entry, Conn, entry, vacant, isOwn, withSlot, withOpenWait}
 use Rattle.rules.specs.Ending.{Result, gives, refuse, end}
 use Rattle.rules.specs.Frames.{newEntry}
-use Rattle.rules.specs.declared.Mode.{Mode}
 use Rattle.rules.specs.declared.Reply.{Reply}
-use Rattle.rules.specs.declared.Reply.the-variants as reply
 use Rattle.rules.specs.declared.Slot.{Slot}
 use Rattle.table.specs.declared.row.Row.{Row}
 use Rattle.handlers.specs.Perform.{outcomeOf, changed, perform}
@@ -26,77 +22,32 @@ use Rattle.memory.specs.declared.Memory.{Memory}
 use Rattle.memory.proofs.Laws.{never, slots-length}
 use Rattle.memory.proofs.Starts.{nothing-advances}
 use Rattle.connection.specs.Abstract.{absOf, Valid, Fresh}
-use Rattle.connection.specs.Promises.{refused, bareAnswer, Follows, Ends}
+use Rattle.connection.specs.Promises.{refused, Follows, Over}
+use Rattle.connection.proofs.Promises.{giving-leaves, refuse-follows}
+use Rattle.connection.proofs.Ids.{below-set}
 use Rattle.rules.specs.Replies.{leavesAll, mayGive}
 use Rattle.connection.specs.declared.Connection.{Connection}
 use Rattle.connection.specs.declared.Done.{Done}
 use Rattle.frames.specs.Shown.{settled}
 use Rattle.frames.specs.Handles.{Handles, Replaces, Opens, Room}
 
--- a reply that may give a header is no refusal
-pub no-refusal : (r : Reply) → mayGive r ≡ true → leavesAll r ≡ false
-no-refusal reply.Done h = refl
-no-refusal reply.Wait h = refl
-no-refusal reply.GoAway h = refl
-no-refusal reply.TooManyStreams h = refl
-no-refusal reply.NoMoreStreamIds h = refl
-no-refusal reply.Closed h = refl
-no-refusal reply.WriteClosed h = never (sym h)
-no-refusal reply.NoSlot h = never (sym h)
-no-refusal reply.NoRoom h = never (sym h)
-no-refusal reply.NotHeld h = never (sym h)
-no-refusal reply.Time h = never (sym h)
-no-refusal reply.Version h = refl
-no-refusal reply.Type h = refl
-no-refusal reply.Body h = never (sym h)
-no-refusal reply.Size h = never (sym h)
-
--- own ids in the table stay below a bound, where a slot takes an entry that keeps it
-below-set : (es : List Entry) (i : ℕ) (e : Entry) (mode : Mode) (n : ℕ) → i < length es
-    → (e .listed ≡ true → isOwn mode (e .stream .id) ≡ true → e .stream .id .0 < n)
-    → ((j : ℕ) → entry es j .listed ≡ true → isOwn mode (entry es j .stream .id) ≡ true → entry es j .stream .id .0 < n)
-    → (j : ℕ) → entry (set es i e) j .listed ≡ true → isOwn mode (entry (set es i e) j .stream .id) ≡ true → entry (set es i e) j .stream .id .0 < n
-below-set es i e mode n below new old j = go (ℕ-discrete j i)
-  where
-    Kept : Entry → Type 0
-    Kept x = x .listed ≡ true → isOwn mode (x .stream .id) ≡ true → x .stream .id .0 < n
-
-    go : Dec (j ≡ i) → Kept (entry (set es i e) j)
-    go (yes q) = let x : entry (set es i e) j ≡ e = rw q (getD-set-same es i e vacant below) in rw x new
-    go (no q) = let x : entry (set es i e) j ≡ entry es j = getD-set-other es i j e vacant q in rw x (old j)
-
 -- ---- a refusal
 
 pub refused-handles : (c : Connection) (t l p : List ℕ) (r : Reply) → Handles (λ x. refuse x r) c t l p (refused c r) t l p
 refused-handles c t l p r = record {
-  steps = λ v. record {
-    valid = v;
-    after = refl;
-    advances = nothing-advances (c .memory) t l p (v .memory);
-    says = record { reply = refl; slot = refl; value = refl; sent = refl; wakes = refl };
-    read = refl;
-  };
+  steps = refuse-follows c t l p r;
   refuses = λ e. (refl, refl, refl, refl);
   silent = λ e. (refl, refl);
 }
 
 -- ---- an ended connection
 
-abbrev pub shutDone : Done → Reply → Done
-shutDone d r = record { connection = d .connection; answer = bareAnswer r true; read = 0 }
-
-pub shut-handles : (c : Connection) (t l p : List ℕ) (r : Reply) (d : Done) (t′ : List ℕ) → Ends c t r d t′ → leavesAll r ≡ false
-    → Handles (λ x. end x r) c t l p (shutDone d r) t′ l p
-shut-handles c t l p r d t′ ends goes = record {
-  steps = λ v. record {
-    valid = ends l p v .valid;
-    after = ends l p v .after;
-    advances = ends l p v .advances;
-    says = record { reply = refl; slot = refl; value = refl; sent = refl; wakes = refl };
-    read = refl;
-  };
-  refuses = λ e. never (sym e ∙ goes);
-  silent = λ e. (refl, refl);
+pub over-handles : (c : Connection) (t l p : List ℕ) (r : Reply) (d : Done) (t′ : List ℕ) → Over c t r d t′ → leavesAll r ≡ false
+    → Handles (λ x. end x r) c t l p d t′ l p
+over-handles c t l p r d t′ over goes = record {
+  steps = over .ends l p;
+  refuses = λ e. never (sym e ∙ ap (λ (a : Answer). leavesAll (a .reply)) (over .answer) ∙ goes);
+  silent = λ e. (ap (λ (a : Answer). a .sent) (over .answer), over .read);
 }
 
 -- ---- one slot changed
@@ -112,7 +63,7 @@ module _ (c : Connection) (t l p : List ℕ) (wait : Bool) (o : Answer) (m′ : 
   acted : (rule : Conn → Result) → mayGive (o .reply) ≡ true → (Valid c t l p → Follows c t l p (rule (absOf c t l p)) d t′ l′ p′) → Handles rule c t l p d t′ l′ p′
   acted rule given f = record {
     steps = f;
-    refuses = λ e. never (sym e ∙ no-refusal (o .reply) given);
+    refuses = λ e. never (sym e ∙ giving-leaves (o .reply) given);
     silent = λ e. never (sym given ∙ e);
   }
 
@@ -133,7 +84,7 @@ module _ (c : Connection) (t l p : List ℕ) (wait : Bool) (o : Answer) (m′ : 
       fresh : Fresh (absOf (d .connection) t′ l′ p′)
       fresh = record {
         parity = v .fresh .parity;
-        below = rw (w .slots) (below-set (slotsOf (c .memory) t l p) i e (c .config .mode) (c .«next_id») inside new (v .fresh .below));
+        below = rw (w .slots) (below-set (c .config .mode) (c .«next_id») (slotsOf (c .memory) t l p) i e new (v .fresh .below));
       }
 
   -- a stream that replaces one has an id that was in the table

@@ -28,7 +28,7 @@ use Rattle.memory.specs.Counts.{fits}
 use Rattle.memory.specs.Moves as memory
 use Rattle.memory.specs.Slots.{slotsOf}
 use Rattle.connection.specs.Abstract.{absOf, Valid}
-use Rattle.connection.specs.Promises.{Follows, sentAfter}
+use Rattle.connection.specs.Promises.{Follows}
 use Rattle.rules.specs.Replies.{leavesAll, mayGive}
 use Rattle.connection.specs.declared.Connection.{Connection}
 use Rattle.connection.specs.declared.Done.{Done}
@@ -98,10 +98,6 @@ HandlesUpdate c t l p h body now d t′ l′ p′ =
 abbrev pub HandlesPing : Connection → List ℕ → Header → ℕ → Done → Type 0
 HandlesPing c t h now d = (l p : List ℕ) → Handles (λ x. pingRules x h now) c t l p d t l p
 
--- the connection ends with a reply that is no refusal
-abbrev pub Shuts : Connection → List ℕ → Reply → Done → List ℕ → Type 0
-Shuts c t r d t′ = leavesAll r ≡ false → (l p : List ℕ) → Handles (λ x. end x r) c t l p d t′ l p
-
 -- a body of the length that the header and its type say
 abbrev pub HandlesType : Connection → List ℕ → List ℕ → List ℕ → Header → List ℕ → ℕ → Done → List ℕ → List ℕ → List ℕ → Type 0
 HandlesType c t l p h body now d t′ l′ p′ =
@@ -131,8 +127,3 @@ HandlesDecoded c t l p f body now d t′ l′ p′ = Handles (λ x. timed x now 
 -- whether all that is lent has its size: "a lent table, pool or header of the wrong size"
 abbrev pub sized : Connection → ℕ → ℕ → ℕ → ℕ → ℕ → Bool
 sized c t l p sent head = cond (fits (c .memory) t l p) (cond (eqb sent 12) (eqb head 12) false) false
-
--- "Lent output changes only .. in the 12 of a header given"
-pub record Gives (d : Done) (s s′ : List ℕ) : Type 0 where
-  pub header : s′ ≡ sentAfter (d .answer .sent) s
-  pub only : Silent d

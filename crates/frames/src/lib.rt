@@ -4,11 +4,11 @@ mod shown;
 ghost use mathlib.Core.Path.{_≡_};
 ghost use lib.Dec.{eqb};
 ghost use lib.ListN.{length};
-ghost use Rattle.connection.specs.Promises.{Promised};
+ghost use Rattle.connection.specs.Promises.{Promised, Gives};
 ghost use Rattle.rules.specs.Frames.{bodyLength};
 ghost use Rattle.rules.specs.Step.{frame};
 ghost use Rattle.frames.specs.Shown.{settled, isFound};
-ghost use Rattle.frames.specs.Handles.{Applies, Shuts, HandlesData, HandlesUpdate, HandlesPing, HandlesType, HandlesHeader, HandlesOpened, HandlesDecoded, sized, Gives};
+ghost use Rattle.frames.specs.Handles.{Applies, HandlesData, HandlesUpdate, HandlesPing, HandlesType, HandlesHeader, HandlesOpened, HandlesDecoded, sized};
 use connection::Connection;
 use connection::Done;
 use connection::Gate;
@@ -74,20 +74,6 @@ fn apply(
             let after = memory.make(table, links, pool, slot, stream, body);
             settled(c, open_wait, after, answer)
         }
-    }
-}
-
-// Ends the connection, with an answer of this reply on any contents.
-fn shut(c: Connection, table: &mut [u64], reply: Reply) -> Done
-    ensures { λ r. ⌜ Shuts c (now (table .entry)) reply r (now (table .exit)) ⌝ }
-{
-    let done = connection::end(c, table, reply);
-    let after = done.connection;
-    let answer = connection::bare(reply, true);
-    Done {
-        connection: after,
-        answer,
-        read: 0,
     }
 }
 
@@ -201,7 +187,7 @@ fn on_type(
         Tag::Data => on_data(c, table, links, pool, header, body, time),
         Tag::WindowUpdate => on_window_update(c, table, links, pool, header, body, time),
         Tag::Ping => on_ping(c, &table[..], header, time),
-        Tag::GoAway => shut(c, table, Reply::Closed),
+        Tag::GoAway => connection::end(c, table, Reply::Closed),
     }
 }
 
@@ -237,8 +223,8 @@ fn on_found(
 {
     match decoded {
         Decoded::Size => connection::refuse(c, Reply::Size),
-        Decoded::Version(_) => shut(c, table, Reply::Version),
-        Decoded::Type(_) => shut(c, table, Reply::Type),
+        Decoded::Version(_) => connection::end(c, table, Reply::Version),
+        Decoded::Type(_) => connection::end(c, table, Reply::Type),
         Decoded::Header(header) => on_header(c, table, links, pool, header, body, time),
     }
 }

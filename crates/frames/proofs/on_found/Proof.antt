@@ -2,7 +2,7 @@
 use mathlib.Core.Path.{refl}
 use borrow.Author.Needs.{needs}
 use Rattle.rules.specs.declared.Reply.the-variants as reply
-use Rattle.frames.proofs.Settling.{refused-handles}
+use Rattle.frames.proofs.Settling.{refused-handles, over-handles}
 use Rattle.frames.proofs.on_found.Statement.{statement}
 use Rattle.frames.proofs.on_found.Tie as tie
 
@@ -15,14 +15,14 @@ refuse-requires c κs = search needs
 enum-told-2 : tie.Need-enum-told-2
 enum-told-2 c = search needs
 
-shut-requires : tie.Need-shut-requires
-shut-requires c κs = search needs
+end-requires : tie.Need-end-requires
+end-requires c κs = search needs
 
 enum-told-3 : tie.Need-enum-told-3
 enum-told-3 c = search needs
 
-shut-requires-2 : tie.Need-shut-requires-2
-shut-requires-2 c κs = search needs
+end-requires-2 : tie.Need-end-requires-2
+end-requires-2 c κs = search needs
 
 enum-known-decoded : tie.Need-enum-known-decoded
 enum-known-decoded c = search needs
@@ -41,7 +41,7 @@ same-length c = search needs
 returns-2 : tie.Need-returns-2
 returns-2 c =
     let a = c .before .before .before .before .before .before .before .before .before .before .args in
-    rw (c .before .before .before .before .enum-told2 .given .1) (c .before .before .shut .ensures refl (a .links .now) (a .pool .now))
+    rw (c .before .before .before .before .enum-told2 .given .1) (over-handles (a .c) (a .table .now) (a .links .now) (a .pool .now) reply.Version (c .before .before .end .result) (c .before .before .end .last .1 .0) (c .before .before .end .ensures) refl)
 
 same-length-2 : tie.Need-same-length-2
 same-length-2 c = search needs
@@ -49,7 +49,7 @@ same-length-2 c = search needs
 returns-3 : tie.Need-returns-3
 returns-3 c =
     let a = c .before .before .before .before .before .before .before .before .before .before .args in
-    rw (c .before .before .before .before .enum-told3 .given .1) (c .before .before .shut2 .ensures refl (a .links .now) (a .pool .now))
+    rw (c .before .before .before .before .enum-told3 .given .1) (over-handles (a .c) (a .table .now) (a .links .now) (a .pool .now) reply.Type (c .before .before .end2 .result) (c .before .before .end2 .last .1 .0) (c .before .before .end2 .ensures) refl)
 
 same-length-3 : tie.Need-same-length-3
 same-length-3 c = search needs
@@ -70,9 +70,9 @@ on-found-spec =
     enum-told
     refuse-requires
     enum-told-2
-    shut-requires
+    end-requires
     enum-told-3
-    shut-requires-2
+    end-requires-2
     enum-known-decoded
     on-header-requires
     returns

@@ -26,8 +26,8 @@ on-ping-requires c κs = search needs
 enum-told-4 : tie.Need-enum-told-4
 enum-told-4 c = search needs
 
-shut-requires : tie.Need-shut-requires
-shut-requires c κs = search needs
+end-requires : tie.Need-end-requires
+end-requires c κs = search needs
 
 same-length : tie.Need-same-length
 same-length c = search needs
@@ -75,7 +75,7 @@ same-length-8 c = search needs
 returns-4 : tie.Need-returns-4
 returns-4 c =
     let a = c .before .before .before .before .before .before .before .before .before .before .args in
-    let w = c .before .before .shut in
+    let w = c .before .before .end in
     as-type (a .c) (a .table .now) (a .links .now) (a .pool .now) (a .header) (a .body .now) (a .time) (w .result) (w .last .1 .0) (a .links .now) (a .pool .now) tag.GoAway (a .header .tag) (c .before .before .before .before .enum-told4 .given .1)
     (go-away-type (a .c) (a .table .now) (a .links .now) (a .pool .now) (a .header) (a .body .now) (a .time) (w .result) (w .last .1 .0) (w .ensures))
 
@@ -90,7 +90,7 @@ on-type-spec =
     enum-told-3
     on-ping-requires
     enum-told-4
-    shut-requires
+    end-requires
     same-length
     same-length-2
     same-length-3
