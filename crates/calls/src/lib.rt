@@ -11,6 +11,7 @@ ghost use Rattle.calls.specs.Parts.{pinged, handleOf, Keeps, Acts};
 use connection::Connection;
 use connection::Done;
 use connection::Gate;
+use connection::LAST_TIME;
 use handlers::Action;
 use handlers::Answer;
 use rules::Reply;
@@ -23,8 +24,6 @@ enum Handle {
     Held(Row),
     Refused(Reply),
 }
-
-const LAST_TIME: u64 = 4611686018427387903;
 
 // Whether a table of this length has its size.
 fn table_sized(c: Connection, len: usize) -> bool

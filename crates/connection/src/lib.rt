@@ -37,7 +37,8 @@ pub enum Gate {
     Shut(Reply),
 }
 
-const LAST_TIME: u64 = 4611686018427387903;
+// Times are nanoseconds, 0..2^62-1.
+pub const LAST_TIME: u64 = 4611686018427387903;
 
 // An answer of the reply alone; `all` says that the connection ended by it.
 pub fn bare(reply: Reply, all: bool) -> Answer

@@ -9,6 +9,7 @@ ghost use Rattle.dropping.specs.Given.{sized};
 ghost use Rattle.dropping.specs.Parts.{released, Puts, Takes, Removes, Releases, Drops};
 use connection::Connection;
 use connection::Done;
+use connection::LAST_TIME;
 use handlers::Action;
 use handlers::Answer;
 use handlers::Known;
@@ -25,8 +26,6 @@ pub struct Removed {
     pub memory: Memory,
     pub answer: Answer,
 }
-
-const LAST_TIME: u64 = 4611686018427387903;
 
 // Whether lent slices of these lengths have their sizes.
 fn sized(c: Connection, table_len: usize, links_len: usize, sent_len: usize) -> bool
