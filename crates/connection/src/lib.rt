@@ -7,6 +7,7 @@ use handlers::Vacancy;
 use memory::Memory;
 use rtt::Rtt;
 use rules::Config;
+use rules::LAST_TIME;
 use rules::Reply;
 use rules::Value;
 use rules::Which;
@@ -36,9 +37,6 @@ pub enum Gate {
     Open,
     Shut(Reply),
 }
-
-// Times are nanoseconds, 0..2^62-1.
-pub const LAST_TIME: u64 = 4611686018427387903;
 
 // An answer of the reply alone; `all` says that the connection ended by it.
 pub fn bare(reply: Reply, all: bool) -> Answer

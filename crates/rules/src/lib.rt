@@ -98,7 +98,8 @@ pub struct Woke {
     pub all: bool,
 }
 
-const LAST_TIME: u64 = 4611686018427387903;
+// Times are nanoseconds, 0..2^62-1.
+pub const LAST_TIME: u64 = 4611686018427387903;
 
 const TOP: u64 = 4294967295;
 

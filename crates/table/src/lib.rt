@@ -5,14 +5,12 @@ ghost use mathlib.Core.Path.{_≡_};
 ghost use Prim.Native.Nat.{_≤_, _<_, min};
 ghost use lib.ListN.{length};
 ghost use Rattle.rules.specs.State.{one, isOwn};
-ghost use Rattle.stream.specs.States.{isPendingAck};
 ghost use Rattle.table.specs.Rows.{blank, isUnacknowledged};
 ghost use Rattle.table.specs.Table.{size, zeros, rowAt, stored, hintPlace, hinted, inserted, ended, scanned, lowestFree, Finds, unacknowledged};
 use frame::header::StreamId;
 use row::Row;
 use rules::Mode;
 use rules::Slot;
-use stream::State;
 
 pub enum Found {
     At(Slot),
@@ -163,17 +161,6 @@ fn is_own(mode: Mode, id: StreamId) -> bool
     }
 }
 
-fn is_pending_ack(state: State) -> bool
-    ensures { λ r. ⌜ r ≡ isPendingAck state ⌝ }
-{
-    match state {
-        State::Open { acknowledged } => { if acknowledged { false } else { true } }
-        State::SendClosed => false,
-        State::RecvClosed => false,
-        State::Closed => false,
-    }
-}
-
 // 1 for a row that counts as unacknowledged, 0 for another.
 fn weight(row: Row, mode: Mode) -> u32
     ensures { λ r. ⌜ r ≡ one (isUnacknowledged mode row) ⌝ }
@@ -184,7 +171,7 @@ fn weight(row: Row, mode: Mode) -> u32
     let state = s.state;
     if row.listed {
         if is_own(mode, id) {
-            if is_pending_ack(state) {
+            if state.is_pending_ack() {
                 return 1;
             }
         }
