@@ -1,0 +1,2 @@
+-- What the contracts of `trace` cite.
+pub mod Runs
