@@ -1,3 +1,6 @@
 -- Laws that the proofs of the frames share.
 pub mod Settling
 pub mod Walk
+pub mod Sees
+pub mod Arrives
+pub mod Orders

@@ -75,7 +75,7 @@ refused-handles c t l p r = record {
     read = refl;
   };
   refuses = λ e. (refl, refl, refl, refl);
-  silent = λ e. refl;
+  silent = λ e. (refl, refl);
 }
 
 -- ---- an ended connection
@@ -93,7 +93,7 @@ shut-handles c t l p r d t′ ends goes = record {
     read = refl;
   };
   refuses = λ e. never (sym e ∙ goes);
-  silent = λ e. refl;
+  silent = λ e. (refl, refl);
 }
 
 -- ---- one slot changed

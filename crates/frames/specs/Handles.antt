@@ -14,8 +14,8 @@ use Rattle.stream.specs.declared.Stream.{Stream}
 use Rattle.rules.specs.Lists.{nowhere}
 use Rattle.rules.specs.State.{Conn, entry, find, isOwn, withOpenWait}
 use Rattle.rules.specs.Ending.{Result, refuse, end}
-use Rattle.rules.specs.Frames.{frameRules, pingRules, onHeader}
-use Rattle.rules.specs.Step.{Call, frame, timed, live}
+use Rattle.rules.specs.Frames.{frameRules, pingRules, bodyLength, onHeader}
+use Rattle.rules.specs.Step.{timed, live}
 use Rattle.rules.specs.declared.Reply.{Reply}
 use Rattle.rules.specs.declared.Reply.the-variants as reply
 use Rattle.rules.specs.declared.Slot.{Slot}
@@ -28,14 +28,14 @@ use Rattle.memory.specs.Counts.{fits}
 use Rattle.memory.specs.Moves as memory
 use Rattle.memory.specs.Slots.{slotsOf}
 use Rattle.connection.specs.Abstract.{absOf, Valid}
-use Rattle.connection.specs.Promises.{Follows, Promised}
+use Rattle.connection.specs.Promises.{Follows, sentAfter}
 use Rattle.rules.specs.Replies.{leavesAll, mayGive}
 use Rattle.connection.specs.declared.Connection.{Connection}
 use Rattle.connection.specs.declared.Done.{Done}
 
--- a reply that gives no header has none in its answer
+-- "replies but 0, 1 and 2 give neither" a header nor bytes read
 abbrev pub Silent : Done → Type 0
-Silent d = mayGive (d .answer .reply) ≡ false → d .answer .sent ≡ Nothing
+Silent d = mayGive (d .answer .reply) ≡ false → (d .answer .sent ≡ Nothing) × (d .read ≡ 0)
 
 -- from a valid state the rule's step; a refusal leaves all as it was; and a header only where the reply may give one
 pub record Handles (rule : Conn → Result) (c : Connection) (t l p : List ℕ) (d : Done) (t′ l′ p′ : List ℕ) : Type 0 where
@@ -102,6 +102,12 @@ HandlesPing c t h now d = (l p : List ℕ) → Handles (λ x. pingRules x h now)
 abbrev pub Shuts : Connection → List ℕ → Reply → Done → List ℕ → Type 0
 Shuts c t r d t′ = leavesAll r ≡ false → (l p : List ℕ) → Handles (λ x. end x r) c t l p d t′ l p
 
+-- a body of the length that the header and its type say
+abbrev pub HandlesType : Connection → List ℕ → List ℕ → List ℕ → Header → List ℕ → ℕ → Done → List ℕ → List ℕ → List ℕ → Type 0
+HandlesType c t l p h body now d t′ l′ p′ =
+    length body ≡ bodyLength (h .tag) (h .length .0)
+    → Handles (λ x. frameRules (h .tag) x h body (find (x .slots) (h .«stream_id»)) now) c t l p d t′ l′ p′
+
 abbrev pub HandlesHeader : Connection → List ℕ → List ℕ → List ℕ → Header → List ℕ → ℕ → Done → List ℕ → List ℕ → List ℕ → Type 0
 HandlesHeader c t l p h body now d t′ l′ p′ = Handles (λ x. onHeader x h body now) c t l p d t′ l′ p′
 
@@ -125,3 +131,8 @@ HandlesDecoded c t l p f body now d t′ l′ p′ = Handles (λ x. timed x now 
 -- whether all that is lent has its size: "a lent table, pool or header of the wrong size"
 abbrev pub sized : Connection → ℕ → ℕ → ℕ → ℕ → ℕ → Bool
 sized c t l p sent head = cond (fits (c .memory) t l p) (cond (eqb sent 12) (eqb head 12) false) false
+
+-- "Lent output changes only .. in the 12 of a header given"
+pub record Gives (d : Done) (s s′ : List ℕ) : Type 0 where
+  pub header : s′ ≡ sentAfter (d .answer .sent) s
+  pub only : Silent d

@@ -29,6 +29,10 @@ abbrev pub vacant : Found → Vacancy
 vacant (found.At s) = vacancy.At s
 vacant found.Nowhere = vacancy.Nowhere
 
+abbrev pub isFound : Found → Bool
+isFound (found.At s) = true
+isFound found.Nowhere = false
+
 -- "the lowest free one is taken": looked for where the frame may make a stream
 abbrev pub vacancyFor : List ℕ → ℕ → Header → Vacancy
 vacancyFor t k h =

@@ -3,17 +3,25 @@ mod shown;
 
 ghost use mathlib.Core.Path.{_≡_};
 ghost use lib.Dec.{eqb};
+ghost use lib.ListN.{length};
+ghost use Rattle.connection.specs.Promises.{Promised};
 ghost use Rattle.rules.specs.Frames.{bodyLength};
-ghost use Rattle.frames.specs.Shown.{settled};
-ghost use Rattle.frames.specs.Handles.{Applies, Shuts};
+ghost use Rattle.rules.specs.Step.{frame};
+ghost use Rattle.frames.specs.Shown.{settled, isFound};
+ghost use Rattle.frames.specs.Handles.{Applies, Shuts, HandlesData, HandlesUpdate, HandlesPing, HandlesType, HandlesHeader, HandlesOpened, HandlesDecoded, sized, Gives};
 use connection::Connection;
 use connection::Done;
+use connection::Gate;
+use frame::header;
+use frame::header::Decoded;
+use frame::header::HEADER_SIZE;
 use frame::header::Header;
 use frame::header::Tag;
 use handlers::Action;
 use handlers::Answer;
 use memory::Memory;
 use rules::Reply;
+use table::Found;
 use table::row::Row;
 
 // The connection with another open wait and other memory, and the answer.
@@ -94,4 +102,208 @@ fn is_body(header: Header, n: usize) -> bool
         Tag::Ping => n == 0,
         Tag::GoAway => n == 0,
     }
+}
+
+// A Data frame with a body of the header's length.
+fn on_data(
+    c: Connection,
+    table: &mut [u64],
+    links: &mut [u32],
+    pool: &mut [u8],
+    header: Header,
+    body: &[u8],
+    time: u64,
+) -> Done
+    ensures { λ r. ⌜ HandlesData c (now (table .entry)) (now (links .entry)) (now (pool .entry)) header (now (body .entry)) time r (now (table .exit)) (now (links .exit)) (now (pool .exit)) ⌝ }
+{
+    let view = shown::show(c, &table[..], header);
+    let limits = view.limits;
+    let seen = view.seen;
+    let known = seen.known;
+    let row = seen.row;
+    let vacancy = view.vacancy;
+    let action = handlers::on_data(limits, view.woke, known, vacancy, header, time);
+    apply(c, table, links, pool, view.open_wait, row, action, body)
+}
+
+// A WindowUpdate without a body.
+fn on_window_update(
+    c: Connection,
+    table: &mut [u64],
+    links: &mut [u32],
+    pool: &mut [u8],
+    header: Header,
+    body: &[u8],
+    time: u64,
+) -> Done
+    ensures { λ r. ⌜ HandlesUpdate c (now (table .entry)) (now (links .entry)) (now (pool .entry)) header (now (body .entry)) time r (now (table .exit)) (now (links .exit)) (now (pool .exit)) ⌝ }
+{
+    let view = shown::show(c, &table[..], header);
+    let limits = view.limits;
+    let seen = view.seen;
+    let known = seen.known;
+    let row = seen.row;
+    let vacancy = view.vacancy;
+    let action = handlers::on_window_update(limits, view.woke, known, vacancy, header, time);
+    apply(c, table, links, pool, view.open_wait, row, action, body)
+}
+
+fn is_found(found: Found) -> bool
+    ensures { λ r. ⌜ r ≡ isFound found ⌝ }
+{
+    match found {
+        Found::At(_) => true,
+        Found::Nowhere => false,
+    }
+}
+
+// A Ping, which touches the pings alone.
+fn on_ping(c: Connection, table: &[u64], header: Header, time: u64) -> Done
+    ensures { λ r. ⌜ HandlesPing c (now (table .entry)) header time r ⌝ }
+{
+    let config = c.config;
+    let rtt = c.rtt;
+    let memory = c.memory;
+    let found = table::find(table, memory.slots, header.stream_id);
+    let in_table = is_found(found);
+    let pong = handlers::ping::on_ping(rtt, in_table, header, time, config.interval);
+    let after = pong.rtt;
+    let answer = pong.answer;
+    Done {
+        connection: Connection {
+            config,
+            rtt: after,
+            ended: c.ended,
+            next_id: c.next_id,
+            open_wait: c.open_wait,
+            growth: c.growth,
+            memory,
+        },
+        answer,
+        read: 0,
+    }
+}
+
+// A frame whose body is as long as its header says, by its type.
+fn on_type(
+    c: Connection,
+    table: &mut [u64],
+    links: &mut [u32],
+    pool: &mut [u8],
+    header: Header,
+    body: &[u8],
+    time: u64,
+) -> Done
+    ensures { λ r. ⌜ HandlesType c (now (table .entry)) (now (links .entry)) (now (pool .entry)) header (now (body .entry)) time r (now (table .exit)) (now (links .exit)) (now (pool .exit)) ⌝ }
+{
+    let tag = header.tag;
+    match tag {
+        Tag::Data => on_data(c, table, links, pool, header, body, time),
+        Tag::WindowUpdate => on_window_update(c, table, links, pool, header, body, time),
+        Tag::Ping => on_ping(c, &table[..], header, time),
+        Tag::GoAway => shut(c, table, Reply::Closed),
+    }
+}
+
+// A frame's header and body: refused where the body is not as long as the header says.
+fn on_header(
+    c: Connection,
+    table: &mut [u64],
+    links: &mut [u32],
+    pool: &mut [u8],
+    header: Header,
+    body: &[u8],
+    time: u64,
+) -> Done
+    ensures { λ r. ⌜ HandlesHeader c (now (table .entry)) (now (links .entry)) (now (pool .entry)) header (now (body .entry)) time r (now (table .exit)) (now (links .exit)) (now (pool .exit)) ⌝ }
+{
+    if is_body(header, body.len()) {
+        return on_type(c, table, links, pool, header, body, time);
+    }
+    connection::refuse(c, Reply::Body)
+}
+
+// What the twelve bytes were found to be: a header, or an unknown version or type, which ends the connection.
+fn on_found(
+    c: Connection,
+    table: &mut [u64],
+    links: &mut [u32],
+    pool: &mut [u8],
+    decoded: Decoded,
+    body: &[u8],
+    time: u64,
+) -> Done
+    ensures { λ r. ⌜ HandlesOpened c (now (table .entry)) (now (links .entry)) (now (pool .entry)) decoded (now (body .entry)) time r (now (table .exit)) (now (links .exit)) (now (pool .exit)) ⌝ }
+{
+    match decoded {
+        Decoded::Size => connection::refuse(c, Reply::Size),
+        Decoded::Version(_) => shut(c, table, Reply::Version),
+        Decoded::Type(_) => shut(c, table, Reply::Type),
+        Decoded::Header(header) => on_header(c, table, links, pool, header, body, time),
+    }
+}
+
+// The same, where the time is in range and the connection has not ended.
+fn on_decoded(
+    c: Connection,
+    table: &mut [u64],
+    links: &mut [u32],
+    pool: &mut [u8],
+    decoded: Decoded,
+    body: &[u8],
+    time: u64,
+) -> Done
+    ensures { λ r. ⌜ HandlesDecoded c (now (table .entry)) (now (links .entry)) (now (pool .entry)) decoded (now (body .entry)) time r (now (table .exit)) (now (links .exit)) (now (pool .exit)) ⌝ }
+{
+    let gate = connection::judge(c.ended, time);
+    match gate {
+        Gate::Shut(reply) => connection::refuse(c, reply),
+        Gate::Open => on_found(c, table, links, pool, decoded, body, time),
+    }
+}
+
+// Whether all that is lent has its size.
+fn sized(c: Connection, table: usize, links: usize, pool: usize, sent: usize, head: usize) -> bool
+    ensures { λ r. ⌜ r ≡ sized c table links pool sent head ⌝ }
+{
+    let memory = c.memory;
+    if memory.fits(table, links, pool) {
+        if sent == HEADER_SIZE {
+            return head == HEADER_SIZE;
+        }
+    }
+    false
+}
+
+// A frame from the peer, its twelve bytes in `head`. The header that it may call for is given into `sent`.
+pub fn on_frame(
+    c: Connection,
+    table: &mut [u64],
+    links: &mut [u32],
+    pool: &mut [u8],
+    sent: &mut [u8],
+    head: &[u8],
+    body: &[u8],
+    time: u64,
+) -> Done
+    ensures { λ r. ⌜ Promised (sized c (length (now (table .entry))) (length (now (links .entry))) (length (now (pool .entry))) (length (now (sent .entry))) (length (now (head .entry)))) c (now (table .entry)) (now (links .entry)) (now (pool .entry)) (frame time (now (head .entry)) (now (body .entry))) r (now (table .exit)) (now (links .exit)) (now (pool .exit)) ⌝ }
+    ensures { λ r. ⌜ Gives r (now (sent .entry)) (now (sent .exit)) ⌝ }
+{
+    let right = sized(
+        c,
+        table.len(),
+        links.len(),
+        pool.len(),
+        sent.len(),
+        head.len(),
+    );
+    if !right {
+        return connection::refuse(c, Reply::Size);
+    }
+    let decoded = header::decode(head);
+    let done = on_decoded(c, table, links, pool, decoded, body, time);
+    let answer = done.answer;
+    let given = answer.sent;
+    connection::put(sent, given);
+    done
 }

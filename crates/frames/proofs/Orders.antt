@@ -1,0 +1,214 @@
+-- How a frame's call comes to its promise: the Ping, and the order of the replies. Assumes nothing.
+use mathlib.Core.Path.{_≡_, refl, sym, ap, _∙_}
+use mathlib.Core.Bool.{Bool, true, false, cond}
+use mathlib.Core.List.{List}
+use Prim.Native.Nat.{ℕ}
+use native.Mathlib.Omega.{arith}
+use lib.Dec.{eqb, ltb}
+use lib.ListN.{length, getD}
+use Rattle.frame.specs.Header.{contains, ack, session}
+use Rattle.frame.specs.Wire.{decoded, typeOf, typedAs}
+use Rattle.frame.specs.declared.header.Decoded.{Decoded}
+use Rattle.frame.specs.declared.header.Decoded.the-variants as found
+use Rattle.frame.specs.declared.header.Header.{Header}
+use Rattle.frame.specs.declared.header.Tag.{Tag}
+use Rattle.frame.specs.declared.header.Tag.the-variants as tag
+use Rattle.frame.specs.declared.header.Typed.{Typed}
+use Rattle.frame.specs.declared.header.Typed.the-variants as typed
+use Rattle.rtt.specs.Pings.{handlePong}
+use Rattle.rtt.specs.declared.Pong as heard
+use Rattle.rtt.specs.declared.Pong.the-variants.{Accepted, Unexpected}
+use Rattle.rtt.specs.declared.Rtt.{Rtt}
+use Rattle.rules.specs.Lists.{Place, at, nowhere}
+use Rattle.rules.specs.Replies.{leavesAll, mayGive}
+use Rattle.rules.specs.Settings.{lastTime}
+use Rattle.rules.specs.State.{Conn, find}
+use Rattle.rules.specs.Ending.{Result, refuse}
+use Rattle.rules.specs.Frames.{pingRules, isKnown, frameRules, bodyLength, onHeader}
+use Rattle.rules.specs.Step.{step, frame, timed, live, onDecoded}
+use Rattle.rules.specs.declared.Reply.{Reply}
+use Rattle.rules.specs.declared.Reply.the-variants as reply
+use Rattle.table.specs.Table.{foundOf, Finds}
+use Rattle.table.specs.declared.Found.{Found}
+use Rattle.handlers.specs.Actions.{pongHeard, pingHeard, noAction, onPing}
+use Rattle.handlers.specs.declared.Pong.{Pong}
+use Rattle.handlers.proofs.Rules.{heardBy, ping-performs}
+use Rattle.memory.specs.Counts.{fits}
+use Rattle.memory.specs.Slots.{slotsOf}
+use Rattle.memory.proofs.Laws.{never, find-slots}
+use Rattle.connection.specs.Abstract.{absOf, Valid}
+use Rattle.connection.specs.Promises.{refused, gateOf, sentAfter, Follows, Promised}
+use Rattle.connection.specs.declared.Connection.{Connection}
+use Rattle.connection.specs.declared.Done.{Done}
+use Rattle.connection.specs.declared.Gate.the-variants as gate
+use Rattle.frames.specs.Shown.{isFound}
+use Rattle.frames.specs.Handles.{Handles, HandlesPing, Shuts, HandlesHeader, opened, HandlesOpened, HandlesDecoded, sized, Gives}
+use Rattle.frames.proofs.Settling.{no-refusal, refused-handles}
+use Rattle.frames.proofs.Arrives.{same-handles}
+
+-- ---- Ping
+
+-- the pings after a Ping frame, and its answer
+abbrev pub heardIn : Connection → Pong → Done
+heardIn c q = record {
+  connection = record {
+    config = c .config;
+    rtt = q .rtt;
+    ended = c .ended;
+    «next_id» = c .«next_id»;
+    «open_wait» = c .«open_wait»;
+    growth = c .growth;
+    memory = c .memory;
+  };
+  answer = q .answer;
+  read = 0;
+}
+
+pong-gives : (r : Rtt) (q : heard.Pong) → mayGive (pongHeard r q .answer .reply) ≡ true
+pong-gives r Unexpected = refl
+pong-gives r (Accepted s) = refl
+
+-- a Ping is answered with 0 or 2
+ping-gives : (r : Rtt) (known : Bool) (h : Header) (now interval : ℕ) → mayGive (onPing r known h now interval .answer .reply) ≡ true
+unfolding onPing
+ping-gives r known h now interval = go (contains (h .flags) ack) (cond (session (h .«stream_id»)) true known)
+  where
+    go : (a b : Bool) → mayGive (cond a (pongHeard r (handlePong r (h .length .0) now interval)) (cond b (pingHeard r (h .length .0)) (record { rtt = r; answer = noAction false })) .answer .reply) ≡ true
+    go true b = pong-gives r (handlePong r (h .length .0) now interval)
+    go false true = refl
+    go false false = refl
+
+found-known : (q : Place) → isFound (foundOf q) ≡ isKnown q
+found-known (at i) = refl
+found-known nowhere = refl
+
+pub ping-handles : (c : Connection) (t : List ℕ) (h : Header) (now : ℕ) (f : Found) → Finds t (c .memory .slots) (h .«stream_id») f → (l p : List ℕ)
+    → Handles (λ x. pingRules x h now) c t l p (heardIn c (onPing (c .rtt) (isFound f) h now (c .config .interval))) t l p
+ping-handles c t h now f finds l p = record {
+  steps = follows;
+  refuses = λ e. never (sym e ∙ no-refusal (onPing (c .rtt) (isFound f) h now (c .config .interval) .answer .reply) (ping-gives (c .rtt) (isFound f) h now (c .config .interval)));
+  silent = λ e. never (sym (ping-gives (c .rtt) (isFound f) h now (c .config .interval)) ∙ e);
+}
+  where
+    pinged : (q : Pong) → Valid c t l p → Follows c t l p (heardBy (absOf c t l p) q) (heardIn c q) t l p
+    pinged q v = record {
+      valid = record { memory = v .memory; slots = v .slots; pool = v .pool; fresh = record { parity = v .fresh .parity; below = v .fresh .below } };
+      after = refl;
+      says = record { reply = refl; slot = refl; value = refl; sent = refl; wakes = refl };
+      read = refl;
+    }
+
+    known : Valid c t l p → isFound f ≡ isKnown (find (slotsOf (c .memory) t l p) (h .«stream_id»))
+    known v = ap isFound (find-slots (c .memory) t l p (v .memory) (h .«stream_id») f finds) ∙ found-known (find (slotsOf (c .memory) t l p) (h .«stream_id»))
+
+    follows : Valid c t l p → Follows c t l p (pingRules (absOf c t l p) h now) (heardIn c (onPing (c .rtt) (isFound f) h now (c .config .interval))) t l p
+    follows v = rw (ping-performs (absOf c t l p) h now, ← known v) (pinged (onPing (c .rtt) (isFound f) h now (c .config .interval)) v)
+
+-- ---- the type
+
+module _ (c : Connection) (t l p : List ℕ) (h : Header) (body : List ℕ) (now : ℕ) (d : Done) (t′ l′ p′ : List ℕ) where
+  abbrev ByType : Tag → Type 0
+  ByType k = length body ≡ bodyLength k (h .length .0) → Handles (λ x. frameRules k x h body (find (x .slots) (h .«stream_id»)) now) c t l p d t′ l′ p′
+
+  pub as-type : (k a : Tag) → a ≡ k → ByType k → ByType a
+  as-type k a e f = rw e f
+
+module _ (c : Connection) (t l p : List ℕ) (h : Header) (body : List ℕ) (now : ℕ) (d : Done) where
+  pub ping-type : HandlesPing c t h now d → ByType c t l p h body now d t l p tag.Ping
+  unfolding frameRules
+  ping-type f e = f l p
+
+  pub go-away-type : (t′ : List ℕ) → Shuts c t reply.Closed d t′ → ByType c t l p h body now d t′ l p tag.GoAway
+  unfolding frameRules
+  go-away-type t′ f e = f refl l p
+
+-- ---- the body's length
+
+module _ (c : Connection) (t l p : List ℕ) (h : Header) (body : List ℕ) (now : ℕ) where
+  pub header-handles : eqb (length body) (bodyLength (h .tag) (h .length .0)) ≡ true → (d : Done) (t′ l′ p′ : List ℕ)
+      → Handles (λ x. frameRules (h .tag) x h body (find (x .slots) (h .«stream_id»)) now) c t l p d t′ l′ p′ → HandlesHeader c t l p h body now d t′ l′ p′
+  unfolding onHeader
+  header-handles e d t′ l′ p′ = same-handles c t l p _ (λ x. onHeader x h body now) d t′ l′ p′ (λ v. rw e)
+
+  pub header-refused : eqb (length body) (bodyLength (h .tag) (h .length .0)) ≡ false → HandlesHeader c t l p h body now (refused c reply.Body) t l p
+  unfolding onHeader
+  header-refused e = same-handles c t l p (λ x. refuse x reply.Body) (λ x. onHeader x h body now) (refused c reply.Body) t l p (λ v. rw e) (refused-handles c t l p reply.Body)
+
+-- ---- "10, 5 (ended)"
+
+module _ (x : Conn) (now : ℕ) (next : Result) where
+  gate-shut : (r : Reply) → gateOf (x .ended) now ≡ gate.Shut r → timed x now (live x next) ≡ refuse x r
+  gate-shut r e = go (ltb lastTime now) (x .ended) e
+    where
+      go : (a b : Bool) → cond a (gate.Shut reply.Time) (cond b (gate.Shut reply.Closed) gate.Open) ≡ gate.Shut r
+          → cond a (refuse x reply.Time) (cond b (refuse x reply.Closed) next) ≡ refuse x r
+      go true b h = let z : reply.Time ≡ r = cc in rw z
+      go false true h = let z : reply.Closed ≡ r = cc in rw z
+      go false false h = cc
+
+  gate-open : gateOf (x .ended) now ≡ gate.Open → timed x now (live x next) ≡ next
+  gate-open e = go (ltb lastTime now) (x .ended) e
+    where
+      go : (a b : Bool) → cond a (gate.Shut reply.Time) (cond b (gate.Shut reply.Closed) gate.Open) ≡ gate.Open
+          → cond a (refuse x reply.Time) (cond b (refuse x reply.Closed) next) ≡ next
+      go true b h = cc
+      go false true h = cc
+      go false false h = refl
+
+module _ (c : Connection) (t l p : List ℕ) (f : Decoded) (body : List ℕ) (now : ℕ) where
+  pub shut-gate : (r : Reply) → gateOf (c .ended) now ≡ gate.Shut r → HandlesDecoded c t l p f body now (refused c r) t l p
+  shut-gate r e =
+      same-handles c t l p (λ x. refuse x r) (λ x. timed x now (live x (opened f x body now))) (refused c r) t l p
+      (λ v. gate-shut (absOf c t l p) now (opened f (absOf c t l p) body now) r e) (refused-handles c t l p r)
+
+  pub open-gate : gateOf (c .ended) now ≡ gate.Open → (d : Done) (t′ l′ p′ : List ℕ) → HandlesOpened c t l p f body now d t′ l′ p′ → HandlesDecoded c t l p f body now d t′ l′ p′
+  open-gate e d t′ l′ p′ =
+      same-handles c t l p (λ x. opened f x body now) (λ x. timed x now (live x (opened f x body now))) d t′ l′ p′
+      (λ v. gate-open (absOf c t l p) now (opened f (absOf c t l p) body now) e)
+
+-- ---- the call
+
+both-true : (a b : Bool) → cond a b false ≡ true → (a ≡ true) × (b ≡ true)
+both-true true b e = (refl, e)
+both-true false b e = never (sym e)
+
+-- twelve bytes are never found of the wrong size
+twelve : (head : List ℕ) → eqb (length head) 12 ≡ true → decoded head ≡ found.Size → ⊥
+twelve head e q = go (typeOf (getD head 1 0)) (eqb (getD head 0 0) 0) (rw e at q)
+  where
+    go : (k : Typed) (b : Bool) → cond b (typedAs k head) (found.Version (getD head 0 0)) ≡ found.Size → ⊥
+    go (typed.Tag k) true z = let y : _≡_ {A = ℕ} 0 1 = cc in omega arith
+    go typed.Unknown true z = let y : _≡_ {A = ℕ} 0 1 = cc in omega arith
+    go k false z = let y : _≡_ {A = ℕ} 0 1 = cc in omega arith
+
+-- the rules' order, said of what was found
+ordered : (f : Decoded) (x : Conn) (body : List ℕ) (now : ℕ) → (f ≡ found.Size → ⊥) → onDecoded f x body now ≡ timed x now (live x (opened f x body now))
+unfolding onDecoded
+ordered found.Size x body now e = absurd (e refl)
+ordered (found.Version n) x body now e = refl
+ordered (found.Type n) x body now e = refl
+ordered (found.Header h) x body now e = refl
+
+module _ (c : Connection) (t l p head body : List ℕ) (now sent : ℕ) where
+  abbrev right : Bool
+  right = sized c (length t) (length l) (length p) sent (length head)
+
+  pub wrong-promised : right ≡ false → Promised right c t l p (frame now head body) (refused c reply.Size) t l p
+  wrong-promised e = record {
+    steps = λ s v. never (sym s ∙ e);
+    wrong = λ w. refl;
+    refuses = λ w. (refl, refl, refl, refl);
+  }
+
+  pub right-promised : right ≡ true → (d : Done) (t′ l′ p′ : List ℕ) → HandlesDecoded c t l p (decoded head) body now d t′ l′ p′ → Promised right c t l p (frame now head body) d t′ l′ p′
+  unfolding step
+  right-promised e d t′ l′ p′ h = record {
+    steps = λ s v. rw (ordered (decoded head) (absOf c t l p) body now (twelve head given)) (h .steps v);
+    wrong = λ w. never (sym e ∙ w);
+    refuses = h .refuses;
+  }
+    where
+      given : eqb (length head) 12 ≡ true
+      given =
+          let q = both-true (fits (c .memory) (length t) (length l) (length p)) (cond (eqb sent 12) (eqb (length head) 12) false) e in
+          both-true (eqb sent 12) (eqb (length head) 12) (q .1) .1
