@@ -1,3 +1,5 @@
--- Laws of runs.
+-- Laws of runs, and of the calls that they make.
 pub mod Steps
 pub mod Parts
+pub mod Silent
+pub mod Applying

@@ -1,2 +1,3 @@
 -- What the contracts of `trace` cite.
 pub mod Runs
+pub mod Applies
