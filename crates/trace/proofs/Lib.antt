@@ -3,3 +3,4 @@ pub mod Steps
 pub mod Parts
 pub mod Silent
 pub mod Applying
+pub mod Showing

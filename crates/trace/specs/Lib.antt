@@ -1,3 +1,4 @@
 -- What the contracts of `trace` cite.
 pub mod Runs
 pub mod Applies
+pub mod Turns

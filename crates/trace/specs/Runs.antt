@@ -96,9 +96,13 @@ linesOf n (o ∷ os) = eventLine (n + 1) o ++ linesOf (n + 1) os
 
 -- ---- one run after another
 
+-- a run that goes on after these lines, so many events being applied
+abbrev pub resumed : List ℕ → ℕ → Ran → Ran
+resumed lines count q = record { lines = lines ++ q .lines; applied = count + q .applied; at = q .at; after = q .after; why = q .why }
+
 -- what two runs give, the second going on where the first stopped
 abbrev pub onward : Ran → Ran → Ran
-onward r q = record { lines = r .lines ++ q .lines; applied = r .applied + q .applied; at = q .at; after = q .after; why = q .why }
+onward r q = resumed (r .lines) (r .applied) q
 
 -- a run over the input from its m-th byte on, by places of the whole input
 abbrev pub shifted : ℕ → Ran → Ran
