@@ -4,3 +4,4 @@ pub mod Parts
 pub mod Silent
 pub mod Applying
 pub mod Showing
+pub mod Turning

@@ -25,7 +25,7 @@ use Rattle.trace.specs.Runs.{Ran, Room, endless, isFull, less, eventLine
 -- ---- where the event after one stands
 
 -- an event takes a byte or more, all of them there
-abbrev Ahead : List ℕ → ℕ → Found → Type 0
+abbrev pub Ahead : List ℕ → ℕ → Found → Type 0
 Ahead s at (call x next) = (at < next) × (next ≤ length s)
 Ahead s at short = Unit {0}
 Ahead s at bad = Unit {0}

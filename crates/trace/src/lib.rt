@@ -165,3 +165,37 @@ fn show(done: Done, sent: &[u8], bytes: &[u8], number: u64, out: &mut [u8], put:
         Put::Full => put,
     }
 }
+
+// Applies the event at a place and writes its line, which has this number.
+fn turn(
+    c: Connection,
+    table: &mut [u64],
+    links: &mut [u32],
+    pool: &mut [u8],
+    sent: &mut [u8],
+    bytes: &mut [u8],
+    src: &[u8],
+    at: usize,
+    number: u64,
+    out: &mut [u8],
+    put: usize,
+) -> Turned
+    requires { ⌜ (length (now sent) ≡ 12) × (length (now bytes) ≡ 16384) ⌝ }
+    ensures { λ r. ⌜ Turns c (now (table .entry)) (now (links .entry)) (now (pool .entry)) (now (src .entry)) at number (now (out .entry)) put r (now (table .exit)) (now (links .exit)) (now (pool .exit)) (now (out .exit)) ⌝ }
+{
+    let event = events::read_event(src, at);
+    let found = after(event);
+    match found {
+        Next::Stop(stop) => Turned::Stop(stop),
+        Next::At(next) => {
+            let left = room(out.len(), put);
+            if left < LONGEST_LINE {
+                return Turned::Stop(Stop::Full);
+            }
+            let done = apply::apply(c, table, links, pool, sent, bytes, src, event);
+            let end = show(done, &sent[..], &bytes[..], number, out, put);
+            let connection = done.connection;
+            Turned::On(connection, next, end)
+        }
+    }
+}
