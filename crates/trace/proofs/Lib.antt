@@ -5,3 +5,4 @@ pub mod Silent
 pub mod Applying
 pub mod Showing
 pub mod Turning
+pub mod Running

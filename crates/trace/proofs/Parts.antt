@@ -148,7 +148,7 @@ module _ (a b : List ℕ) where
 
 -- ---- a trace in parts
 
-append-nil : (s : List ℕ) → s ++ [] ≡ s
+pub append-nil : (s : List ℕ) → s ++ [] ≡ s
 append-nil [] = refl
 append-nil (x ∷ s) = ap (λ (r : List ℕ). x ∷ r) (append-nil s)
 

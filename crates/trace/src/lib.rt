@@ -199,3 +199,78 @@ fn turn(
         }
     }
 }
+
+// Applies the events from a place on while fewer than `allowance` are applied, and writes their lines. `sent` and `bytes` are
+// lent for a header and for the bytes that an event reads.
+pub fn run(
+    c: Connection,
+    table: &mut [u64],
+    links: &mut [u32],
+    pool: &mut [u8],
+    sent: &mut [u8],
+    bytes: &mut [u8],
+    src: &[u8],
+    out: &mut [u8],
+    place: Place,
+    allowance: u64,
+) -> Report
+    ensures { λ r. ⌜ Runs (sized c (length (now (table .entry))) (length (now (links .entry))) (length (now (pool .entry))) (length (now (sent .entry))) (length (now (bytes .entry)))) c (now (table .entry)) (now (links .entry)) (now (pool .entry)) (now (src .entry)) (now (out .entry)) place allowance r (now (table .exit)) (now (links .exit)) (now (pool .exit)) (now (out .exit)) ⌝ }
+{
+    let right = sized(
+        c,
+        table.len(),
+        links.len(),
+        pool.len(),
+        sent.len(),
+        bytes.len(),
+    );
+    if !right {
+        return Report {
+            connection: c,
+            place,
+            stop: Stop::Size,
+        };
+    }
+    let mut connection = c;
+    let mut at = place.at;
+    let mut applied = place.applied;
+    let mut put = place.put;
+    while applied < allowance {
+        let number = applied + 1;
+        let turned = turn(
+            connection,
+            table,
+            links,
+            pool,
+            sent,
+            bytes,
+            src,
+            at,
+            number,
+            out,
+            put,
+        );
+        match turned {
+            Turned::Stop(stop) => {
+                let here = Place { at, applied, put };
+                return Report {
+                    connection,
+                    place: here,
+                    stop,
+                };
+            }
+            Turned::On(after, next, end) => {
+                connection = after;
+                at = next;
+                put = end;
+                applied = number;
+            }
+        }
+    }
+    let here = Place { at, applied, put };
+    Report {
+        connection,
+        place: here,
+        stop: Stop::Spent,
+    }
+}
