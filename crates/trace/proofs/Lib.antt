@@ -6,3 +6,4 @@ pub mod Applying
 pub mod Showing
 pub mod Turning
 pub mod Running
+pub mod Keeping

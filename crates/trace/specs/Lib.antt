@@ -2,3 +2,4 @@
 pub mod Runs
 pub mod Applies
 pub mod Turns
+pub mod Output

@@ -1,6 +1,12 @@
 // A run over a trace: whole events are read, applied and written as lines, as far as the input, the allowance and the room go.
 mod apply;
+mod ends;
 
+pub use ends::Begun;
+pub use ends::Sizes;
+pub use ends::begin;
+pub use ends::finish;
+pub use ends::keep_rest;
 ghost use mathlib.Core.Path.{_≡_};
 ghost use Prim.Native.Nat.{_+_, _-_, _≤_, min};
 ghost use lib.ListN.{length};
