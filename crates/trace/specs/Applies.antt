@@ -1,0 +1,48 @@
+-- What the call of an event promises from a valid state: the rules' step, and what its line shows of lent output.
+use mathlib.Core.Path.{_≡_}
+use mathlib.Core.Bool.{Bool, true, false, cond}
+use mathlib.Core.List.{List}
+use Prim.Native.Nat.{ℕ, _+_, _≤_}
+use lib.Dec.{ltb, eqb}
+use lib.ListN.{length, take}
+use Rattle.rules.specs.Step.{Call, step}
+use Rattle.memory.specs.Counts.{fits}
+use Rattle.connection.specs.Abstract.{absOf, Valid}
+use Rattle.connection.specs.Promises.{Follows, sentAfter}
+use Rattle.connection.specs.declared.Connection.{Connection}
+use Rattle.connection.specs.declared.Done.{Done}
+use Rattle.events.specs.Calls.{call, foundIn}
+use Rattle.events.specs.declared.Event.{Event}
+use Rattle.events.specs.declared.Event.the-variants.{Tick, Frame, Open, Read, Write, Close, Drop, Gone, Short, Bad}
+
+-- the slot of this number, or one above every K: both are not held
+abbrev pub slotOf : ℕ → ℕ
+slotOf n = cond (ltb 4294967295 n) 4294967295 n
+
+-- the parts of the input that an event takes are there, and so is room for the bytes that it reads
+abbrev pub Lies : List ℕ → ℕ → Event → Type 0
+Lies s room (Tick now next) = Unit {0}
+Lies s room (Frame now head body next) = (head + 12 ≡ body) × (body ≤ next) × (next ≤ length s)
+Lies s room (Open now next) = Unit {0}
+Lies s room (Read now slot count next) = count ≤ room
+Lies s room (Write now slot start next) = (start ≤ next) × (next ≤ length s)
+Lies s room (Close now slot next) = Unit {0}
+Lies s room (Drop now slot next) = Unit {0}
+Lies s room (Gone now next) = Unit {0}
+Lies s room Short = Unit {0}
+Lies s room Bad = Unit {0}
+
+-- the rules' step, its header in the twelve lent bytes, and the bytes that it read at the start of the lent output
+pub record Applied (c : Connection) (t l p sent : List ℕ) (x : Call) (d : Done) (t′ l′ p′ sent′ bytes′ : List ℕ) : Type 0 where
+  pub follows : Follows c t l p (step (absOf c t l p) x) d t′ l′ p′
+  pub header : sent′ ≡ sentAfter (d .answer .sent) sent
+  pub bytes : take (d .read) bytes′ ≡ step (absOf c t l p) x .outcome .bytes
+
+-- the same of the call that an event stands for
+abbrev pub Applies : Connection → List ℕ → List ℕ → List ℕ → List ℕ → List ℕ → Event → Done → List ℕ → List ℕ → List ℕ → List ℕ → List ℕ → Type 0
+Applies c t l p sent s e d t′ l′ p′ sent′ bytes′ =
+    (x : Call) (next : ℕ) → foundIn s e ≡ call x next → Valid c t l p → length sent ≡ 12 → Applied c t l p sent x d t′ l′ p′ sent′ bytes′
+
+-- "a lent table, pool or header of the wrong size", and room for 16,384 bytes read
+abbrev pub sized : Connection → ℕ → ℕ → ℕ → ℕ → ℕ → Bool
+sized c t l p sent bytes = cond (fits (c .memory) t l p) (cond (eqb sent 12) (eqb bytes 16384) false) false

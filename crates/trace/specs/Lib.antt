@@ -1,0 +1,5 @@
+-- What the contracts of `trace` cite.
+pub mod Runs
+pub mod Applies
+pub mod Turns
+pub mod Output

@@ -1,0 +1,127 @@
+-- What one event, and a run over the events from a place on, promise.
+use mathlib.Core.Path.{_≡_}
+use mathlib.Core.Bool.{Bool, true, false}
+use mathlib.Core.List.{List}
+use Prim.Native.Nat.{ℕ, suc, _+_, _-_, _≤_, _<_, min}
+use lib.ListN.{length, take}
+use lib.Seq.{sets}
+use Rattle.stream.specs.declared.Sent.{Sent}
+use Rattle.stream.specs.declared.Sent.the-variants.{Frame, Nothing}
+use Rattle.rules.specs.State.{Conn}
+use Rattle.connection.specs.Abstract.{absOf, Valid}
+use Rattle.connection.specs.declared.Connection.{Connection}
+use Rattle.connection.specs.declared.Done.{Done}
+use Rattle.events.specs.declared.Event.{Event}
+use Rattle.events.specs.declared.Event.the-variants as event
+use Rattle.lines.specs.Line.{lineOf}
+use Rattle.trace.specs.Runs.{Ran, only, stopped, wrote, runs, resumed}
+use Rattle.trace.specs.declared.Stop.{Stop}
+use Rattle.trace.specs.declared.Stop.the-variants as stop
+use Rattle.trace.specs.declared.Next.{Next}
+use Rattle.trace.specs.declared.Next.the-variants as next
+use Rattle.trace.specs.declared.Turned.{Turned}
+use Rattle.trace.specs.declared.Turned.the-variants as turned
+use Rattle.trace.specs.declared.Place.{Place}
+use Rattle.trace.specs.declared.Report.{Report}
+
+-- ---- one event
+
+-- the place after an event, or why there is none
+abbrev pub nextOf : Event → Next
+nextOf (event.Tick now p) = next.At p
+nextOf (event.Frame now head body p) = next.At p
+nextOf (event.Open now p) = next.At p
+nextOf (event.Read now slot count p) = next.At p
+nextOf (event.Write now slot start p) = next.At p
+nextOf (event.Close now slot p) = next.At p
+nextOf (event.Drop now slot p) = next.At p
+nextOf (event.Gone now p) = next.At p
+nextOf event.Short = next.Stop stop.Short
+nextOf event.Bad = next.Stop stop.Bad
+
+-- how many of the twelve lent bytes a header takes
+abbrev pub headerSize : Sent → ℕ
+headerSize (Frame h) = 12
+headerSize Nothing = 0
+
+-- the line of an answer, its header and its bytes read off the lent output
+abbrev pub shownLine : ℕ → Done → List ℕ → List ℕ → List ℕ
+shownLine n d sent bytes =
+    lineOf
+    (record { number = n; reply = d .answer .reply; slot = d .answer .slot; value = d .answer .value; wakes = d .answer .wakes })
+    (take (headerSize (d .answer .sent)) sent)
+    (take (min (d .read) (length bytes)) bytes)
+
+-- nothing is applied at a place, and so a run stops there, from any state
+pub record Halts (t l p s : List ℕ) (at : ℕ) (o : List ℕ) (put : ℕ) (why : Stop) (t′ l′ p′ o′ : List ℕ) : Type 0 where
+  pub table : t′ ≡ t
+  pub links : l′ ≡ l
+  pub pool : p′ ≡ p
+  pub out : o′ ≡ o
+  pub stops : (c : Conn) (k n : ℕ) → runs (suc k) c s at n (only (length o - put)) ≡ stopped c at why
+
+-- from a valid state: the event's line, and the run goes on after it
+pub record Stepped (c : Connection) (t l p s : List ℕ) (at number : ℕ) (o : List ℕ) (put : ℕ) (d : Connection) (after end : ℕ) (t′ l′ p′ o′ : List ℕ) : Type 0 where
+  pub line : List ℕ
+  pub valid : Valid d t′ l′ p′
+  pub goes : (k n : ℕ) → n + 1 ≡ number
+      → runs (suc k) (absOf c t l p) s at n (only (length o - put)) ≡ wrote line (runs k (absOf d t′ l′ p′) s after (n + 1) (only (length o - end)))
+  pub ends : end ≡ put + length line
+  pub out : o′ ≡ sets o put line
+
+-- on every input: forward in the input and in the room, and inside both
+pub record Goes (c : Connection) (t l p s : List ℕ) (at number : ℕ) (o : List ℕ) (put : ℕ) (d : Connection) (after end : ℕ) (t′ l′ p′ o′ : List ℕ) : Type 0 where
+  pub forward : at < after
+  pub inside : after ≤ length s
+  pub written : put ≤ end
+  pub room : end ≤ length o
+  pub steps : Valid c t l p → Stepped c t l p s at number o put d after end t′ l′ p′ o′
+
+abbrev pub Turns : Connection → List ℕ → List ℕ → List ℕ → List ℕ → ℕ → ℕ → List ℕ → ℕ → Turned → List ℕ → List ℕ → List ℕ → List ℕ → Type 0
+Turns c t l p s at number o put (turned.Stop why) t′ l′ p′ o′ = Halts t l p s at o put why t′ l′ p′ o′
+Turns c t l p s at number o put (turned.On d after end) t′ l′ p′ o′ = Goes c t l p s at number o put d after end t′ l′ p′ o′
+
+-- ---- a run
+
+-- A run's answer: valid again, and state, count, places, reason and lines are the definition's.
+pub record RanAs (ran : Ran) (place : Place) (o : List ℕ) (r : Report) (t′ l′ p′ o′ : List ℕ) : Type 0 where
+  pub valid : Valid (r .connection) t′ l′ p′
+  pub after : absOf (r .connection) t′ l′ p′ ≡ ran .after
+  pub applied : r .place .applied ≡ place .applied + ran .applied
+  pub at : r .place .at ≡ ran .at
+  pub put : r .place .put ≡ place .put + length (ran .lines)
+  pub why : r .stop ≡ ran .why
+  pub out : o′ ≡ sets o (place .put) (ran .lines)
+
+-- the definition's run from a place on, within the room that is left
+abbrev pub runsFrom : Connection → List ℕ → List ℕ → List ℕ → List ℕ → List ℕ → Place → ℕ → Ran
+runsFrom c t l p s o place allowance =
+    runs (allowance - place .applied) (absOf c t l p) s (place .at) (place .applied) (only (length o - place .put))
+
+-- Where a run stands, on every input: never back, and never past the allowance, the input or the room.
+pub record Bounds (s o : List ℕ) (place : Place) (allowance at applied put : ℕ) : Type 0 where
+  pub counted : place .applied ≤ applied
+  pub allowed : place .applied ≤ allowance → applied ≤ allowance
+  pub forward : place .at ≤ at
+  pub inside : place .at ≤ length s → at ≤ length s
+  pub written : place .put ≤ put
+  pub room : place .put ≤ length o → put ≤ length o
+
+-- From a valid state, `sized` saying whether all that is lent has its size, a run is the definition's. A wrong size is told, and
+-- nothing changes.
+pub record Runs (sized : Bool) (c : Connection) (t l p s o : List ℕ) (place : Place) (allowance : ℕ) (r : Report) (t′ l′ p′ o′ : List ℕ) : Type 0 where
+  pub steps : sized ≡ true → Valid c t l p → RanAs (runsFrom c t l p s o place allowance) place o r t′ l′ p′ o′
+  pub wrong : sized ≡ false → (r ≡ record { connection = c; place = place; stop = stop.Size }) × (t′ ≡ t) × (l′ ≡ l) × (p′ ≡ p) × (o′ ≡ o)
+  pub bounds : Bounds s o place allowance (r .place .at) (r .place .applied) (r .place .put)
+
+-- ---- within a run
+
+-- how far a run has come: the lines and the count so far, and what is left of the definition's run
+pub record Reached (c : Connection) (t l p s o : List ℕ) (place : Place) (allowance : ℕ) (d : Connection) (t′ l′ p′ o′ : List ℕ) (at applied put : ℕ) : Type 0 where
+  pub lines : List ℕ
+  pub count : ℕ
+  pub valid : Valid d t′ l′ p′
+  pub left : runsFrom c t l p s o place allowance ≡ resumed lines count (runsFrom d t′ l′ p′ s o′ (record { at = at; applied = applied; put = put }) allowance)
+  pub applies : applied ≡ place .applied + count
+  pub puts : put ≡ place .put + length lines
+  pub out : o′ ≡ sets o (place .put) lines

@@ -1,0 +1,94 @@
+// The call that an event stands for.
+ghost use mathlib.Core.Path.{_≡_};
+ghost use lib.ListN.{length};
+ghost use Rattle.trace.specs.Applies.{slotOf, Lies, Applies};
+use connection::Connection;
+use connection::Done;
+use events::Event;
+use rules::Reply;
+use rules::Slot;
+
+const TOP: u64 = 4294967295;
+
+// The slot of this number, or one that no connection has.
+fn slot_of(n: u64) -> Slot
+    ensures { λ r. ⌜ r .0 ≡ slotOf n ⌝ }
+{
+    if TOP < n {
+        return Slot(4294967295);
+    }
+    Slot(n as u32)
+}
+
+// Makes the call that an event stands for. What no event is, is refused.
+pub(crate) fn apply(
+    c: Connection,
+    table: &mut [u64],
+    links: &mut [u32],
+    pool: &mut [u8],
+    sent: &mut [u8],
+    bytes: &mut [u8],
+    src: &[u8],
+    event: Event,
+) -> Done
+    requires { ⌜ Lies (now src) (length (now bytes)) event ⌝ }
+    ensures { λ r. ⌜ Applies c (now (table .entry)) (now (links .entry)) (now (pool .entry)) (now (sent .entry)) (now (src .entry)) event r (now (table .exit)) (now (links .exit)) (now (pool .exit)) (now (sent .exit)) (now (bytes .exit)) ⌝ }
+{
+    match event {
+        Event::Tick { now, next: _ } => calls::tick(c, &table[..], sent, now),
+        Event::Frame {
+            now,
+            head,
+            body,
+            next,
+        } => frames::on_frame(
+            c,
+            table,
+            links,
+            pool,
+            sent,
+            &src[head..body],
+            &src[body..next],
+            now,
+        ),
+        Event::Open { now, next: _ } => opening::open(c, table, links, pool, now),
+        Event::Read {
+            now,
+            slot,
+            count,
+            next: _,
+        } => {
+            let handle = slot_of(slot);
+            reading::read(
+                c,
+                table,
+                links,
+                &pool[..],
+                sent,
+                handle,
+                &mut bytes[..count],
+                now,
+            )
+        }
+        Event::Write {
+            now,
+            slot,
+            start,
+            next,
+        } => {
+            let handle = slot_of(slot);
+            calls::write(c, table, sent, handle, &src[start..next], now)
+        }
+        Event::Close { now, slot, next: _ } => {
+            let handle = slot_of(slot);
+            calls::close(c, table, sent, handle, now)
+        }
+        Event::Drop { now, slot, next: _ } => {
+            let handle = slot_of(slot);
+            dropping::drop_handle(c, table, links, sent, handle, now)
+        }
+        Event::Gone { now, next: _ } => calls::peer_gone(c, table, now),
+        Event::Short => connection::refuse(c, Reply::Size),
+        Event::Bad => connection::refuse(c, Reply::Size),
+    }
+}

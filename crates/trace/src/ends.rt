@@ -1,0 +1,121 @@
+// How a trace starts and ends: its settings, its last line, and what is kept of one part for the next.
+ghost use mathlib.Core.Path.{_≡_};
+ghost use mathlib.Core.List.{_++_};
+ghost use Prim.Native.Nat.{_≤_};
+ghost use lib.ListN.{length, drop};
+ghost use Rattle.rules.specs.Settings.{checked};
+ghost use Rattle.events.specs.Format.{settingsAt};
+ghost use Rattle.lines.specs.Writing.{Writes, lastRoom};
+ghost use Rattle.trace.specs.Output.{sizesOf, judgedAs, begunAs, isUnreadable, lastLine, kept};
+use crate::Stop;
+use events::Typed;
+use lines::Put;
+use rules::Checked;
+use rules::Config;
+use rules::Settings;
+
+// The cells and bytes that settings ask for.
+pub struct Sizes {
+    pub table: usize,
+    pub links: usize,
+    pub pool: usize,
+}
+
+// Settings that a trace may have, what they ask for and the place after them; or a setting is out of range; or the input ends
+// before they do, or they are unreadable.
+pub enum Begun {
+    Fine(Settings, Sizes, usize),
+    Refused,
+    Short,
+    Bad,
+}
+
+const MOST_SLOTS: u32 = 300;
+
+const MOST_POOL: u32 = 16384;
+
+fn sizes_of(config: Config) -> Sizes
+    ensures { λ r. ⌜ r ≡ sizesOf config ⌝ }
+{
+    Sizes {
+        table: table::size(config.slots),
+        links: chunks::blocks(config.slots, config.pool),
+        pool: chunks::pool_len(config.slots, config.pool),
+    }
+}
+
+// Judges settings, once all ten are read.
+fn judge(settings: Settings, next: usize) -> Begun
+    ensures { λ r. ⌜ r ≡ judgedAs (checked settings) settings next ⌝ }
+{
+    let checked = settings.check();
+    match checked {
+        Checked::Wrong(_) => Begun::Refused,
+        Checked::Fine(config) => {
+            if MOST_SLOTS < config.slots {
+                return Begun::Refused;
+            }
+            if MOST_POOL < config.pool {
+                return Begun::Refused;
+            }
+            let sizes = sizes_of(config);
+            Begun::Fine(settings, sizes, next)
+        }
+    }
+}
+
+// How a trace begins.
+pub fn begin(src: &[u8]) -> Begun
+    ensures { λ r. ⌜ r ≡ begunAs (settingsAt (now (src .entry))) ⌝ }
+{
+    let typed = events::read_settings(src);
+    match typed {
+        Typed::Settings(settings, next) => judge(settings, next),
+        Typed::Short => Begun::Short,
+        Typed::Bad => Begun::Bad,
+    }
+}
+
+// Whether a trace is unreadable where a run stopped, `left` bytes of it being left.
+fn is_unreadable(stop: Stop, left: usize) -> bool
+    ensures { λ r. ⌜ r ≡ isUnreadable stop left ⌝ }
+{
+    match stop {
+        Stop::Short => 0 < left,
+        Stop::Bad => true,
+        Stop::Spent => false,
+        Stop::Full => false,
+        Stop::Size => false,
+    }
+}
+
+// Writes the last line of a trace whose run stopped so, `left` bytes of it being left.
+pub fn finish(out: &mut [u8], put: usize, stop: Stop, left: usize, applied: u64, growth: u64) -> Put
+    ensures { λ r. ⌜ Writes lastRoom (now (out .entry)) put (lastLine stop left applied growth) (now (out .exit)) r ⌝ }
+{
+    if is_unreadable(stop, left) {
+        return lines::bad_line(out, put, applied);
+    }
+    lines::end_line(out, put, applied, growth)
+}
+
+// Moves the bytes between two places to the front, and returns how many they are: none where they are not all there.
+pub fn keep_rest(src: &mut [u8], from: usize, to: usize) -> usize
+    ensures { λ r. ⌜ r ≡ length (kept (now (src .entry)) from to) ⌝ }
+    ensures { λ r. ⌜ now (src .exit) ≡ kept (now (src .entry)) from to ++ drop r (now (src .entry)) ⌝ }
+    ensures { λ r. ⌜ r ≤ length (now (src .entry)) ⌝ }
+{
+    if to < from {
+        return 0;
+    }
+    if src.len() < to {
+        return 0;
+    }
+    let n = to - from;
+    let mut i = 0;
+    while i < n {
+        src[i] = src[from + i];
+        i = i + 1;
+    }
+    n
+}

@@ -1,0 +1,282 @@
+// A run over a trace: whole events are read, applied and written as lines, as far as the input, the allowance and the room go.
+mod apply;
+mod ends;
+
+pub use ends::Begun;
+pub use ends::Sizes;
+pub use ends::begin;
+pub use ends::finish;
+pub use ends::keep_rest;
+ghost use mathlib.Core.Path.{_≡_};
+ghost use Prim.Native.Nat.{_+_, _-_, _≤_, min};
+ghost use lib.ListN.{length};
+ghost use Rattle.lines.specs.Writing.{Stores, longestLine};
+ghost use Rattle.trace.specs.Applies.{sized};
+ghost use Rattle.trace.specs.Turns.{nextOf, headerSize, shownLine, Turns, Runs};
+use connection::Connection;
+use connection::Done;
+use events::Event;
+use lines::LONGEST_LINE;
+use lines::Put;
+use lines::Shown;
+use stream::Sent;
+
+// Why a run stopped: the input ends before or within an event; the next event is unreadable; the allowance is used up; there
+// is less room than the longest line takes; or something lent is of the wrong size, and nothing was applied.
+pub enum Stop {
+    Short,
+    Bad,
+    Spent,
+    Full,
+    Size,
+}
+
+// Where a run stands: the place in the input, the events applied so far, and the place in the room for lines.
+pub struct Place {
+    pub at: usize,
+    pub applied: u64,
+    pub put: usize,
+}
+
+// The connection after a run, where the run stands, and why it stopped there.
+pub struct Report {
+    pub connection: Connection,
+    pub place: Place,
+    pub stop: Stop,
+}
+
+// The place after an event, or why there is none.
+enum Next {
+    At(usize),
+    Stop(Stop),
+}
+
+// The connection after an event, and the places after it and after its line; or why it was not applied.
+enum Turned {
+    On(Connection, usize, usize),
+    Stop(Stop),
+}
+
+const HEADER: usize = 12;
+
+// The most bytes that an event reads.
+const SCRATCH: usize = 16384;
+
+// Whether all that is lent has its size.
+fn sized(c: Connection, table: usize, links: usize, pool: usize, sent: usize, bytes: usize) -> bool
+    ensures { λ r. ⌜ r ≡ sized c table links pool sent bytes ⌝ }
+{
+    let memory = c.memory;
+    if memory.fits(table, links, pool) {
+        if sent == HEADER {
+            return bytes == SCRATCH;
+        }
+    }
+    false
+}
+
+// The room from a place on.
+fn room(size: usize, put: usize) -> usize
+    ensures { λ r. ⌜ r ≡ size - put ⌝ }
+{
+    if size < put {
+        return 0;
+    }
+    size - put
+}
+
+fn after(event: Event) -> Next
+    ensures { λ r. ⌜ r ≡ nextOf event ⌝ }
+{
+    match event {
+        Event::Tick { now: _, next } => Next::At(next),
+        Event::Frame {
+            now: _,
+            head: _,
+            body: _,
+            next,
+        } => Next::At(next),
+        Event::Open { now: _, next } => Next::At(next),
+        Event::Read {
+            now: _,
+            slot: _,
+            count: _,
+            next,
+        } => Next::At(next),
+        Event::Write {
+            now: _,
+            slot: _,
+            start: _,
+            next,
+        } => Next::At(next),
+        Event::Close {
+            now: _,
+            slot: _,
+            next,
+        } => Next::At(next),
+        Event::Drop {
+            now: _,
+            slot: _,
+            next,
+        } => Next::At(next),
+        Event::Gone { now: _, next } => Next::At(next),
+        Event::Short => Next::Stop(Stop::Short),
+        Event::Bad => Next::Stop(Stop::Bad),
+    }
+}
+
+// How many of the twelve lent bytes an answer gives.
+fn header_size(sent: Sent) -> usize
+    ensures { λ r. ⌜ r ≡ headerSize sent ⌝ }
+    ensures { λ r. ⌜ r ≤ 12 ⌝ }
+{
+    match sent {
+        Sent::Frame(_) => HEADER,
+        Sent::Nothing => 0,
+    }
+}
+
+fn least(n: u32, size: usize) -> usize
+    ensures { λ r. ⌜ r ≡ min n size ⌝ }
+    ensures { λ r. ⌜ r ≤ size ⌝ }
+{
+    let wide = n as usize;
+    if wide < size { wide } else { size }
+}
+
+// Writes the line of an event where there is room for the longest one, and returns the place after it.
+fn show(done: Done, sent: &[u8], bytes: &[u8], number: u64, out: &mut [u8], put: usize) -> usize
+    requires { ⌜ (length (now sent) ≡ 12) × (length (now bytes) ≡ 16384) × (put + longestLine ≤ length (now out)) ⌝ }
+    ensures { λ r. ⌜ Stores (now (out .entry)) put (shownLine number done (now (sent .entry)) (now (bytes .entry))) (now (out .exit)) r ⌝ }
+    ensures { λ r. ⌜ r ≤ length (now (out .entry)) ⌝ }
+{
+    let answer = done.answer;
+    let given = answer.sent;
+    let header = header_size(given);
+    let read = least(done.read, bytes.len());
+    let reply = answer.reply;
+    let slot = answer.slot;
+    let value = answer.value;
+    let wakes = answer.wakes;
+    let shown = Shown {
+        number,
+        reply,
+        slot,
+        value,
+        wakes,
+    };
+    let written = lines::line(out, put, shown, &sent[..header], &bytes[..read]);
+    match written {
+        Put::At(end) => end,
+        Put::Full => put,
+    }
+}
+
+// Applies the event at a place and writes its line, which has this number.
+fn turn(
+    c: Connection,
+    table: &mut [u64],
+    links: &mut [u32],
+    pool: &mut [u8],
+    sent: &mut [u8],
+    bytes: &mut [u8],
+    src: &[u8],
+    at: usize,
+    number: u64,
+    out: &mut [u8],
+    put: usize,
+) -> Turned
+    requires { ⌜ (length (now sent) ≡ 12) × (length (now bytes) ≡ 16384) ⌝ }
+    ensures { λ r. ⌜ Turns c (now (table .entry)) (now (links .entry)) (now (pool .entry)) (now (src .entry)) at number (now (out .entry)) put r (now (table .exit)) (now (links .exit)) (now (pool .exit)) (now (out .exit)) ⌝ }
+{
+    let event = events::read_event(src, at);
+    let found = after(event);
+    match found {
+        Next::Stop(stop) => Turned::Stop(stop),
+        Next::At(next) => {
+            let left = room(out.len(), put);
+            if left < LONGEST_LINE {
+                return Turned::Stop(Stop::Full);
+            }
+            let done = apply::apply(c, table, links, pool, sent, bytes, src, event);
+            let end = show(done, &sent[..], &bytes[..], number, out, put);
+            let connection = done.connection;
+            Turned::On(connection, next, end)
+        }
+    }
+}
+
+// Applies the events from a place on while fewer than `allowance` are applied, and writes their lines. `sent` and `bytes` are
+// lent for a header and for the bytes that an event reads.
+pub fn run(
+    c: Connection,
+    table: &mut [u64],
+    links: &mut [u32],
+    pool: &mut [u8],
+    sent: &mut [u8],
+    bytes: &mut [u8],
+    src: &[u8],
+    out: &mut [u8],
+    place: Place,
+    allowance: u64,
+) -> Report
+    ensures { λ r. ⌜ Runs (sized c (length (now (table .entry))) (length (now (links .entry))) (length (now (pool .entry))) (length (now (sent .entry))) (length (now (bytes .entry)))) c (now (table .entry)) (now (links .entry)) (now (pool .entry)) (now (src .entry)) (now (out .entry)) place allowance r (now (table .exit)) (now (links .exit)) (now (pool .exit)) (now (out .exit)) ⌝ }
+{
+    let right = sized(
+        c,
+        table.len(),
+        links.len(),
+        pool.len(),
+        sent.len(),
+        bytes.len(),
+    );
+    if !right {
+        return Report {
+            connection: c,
+            place,
+            stop: Stop::Size,
+        };
+    }
+    let mut connection = c;
+    let mut at = place.at;
+    let mut applied = place.applied;
+    let mut put = place.put;
+    while applied < allowance {
+        let number = applied + 1;
+        let turned = turn(
+            connection,
+            table,
+            links,
+            pool,
+            sent,
+            bytes,
+            src,
+            at,
+            number,
+            out,
+            put,
+        );
+        match turned {
+            Turned::Stop(stop) => {
+                let here = Place { at, applied, put };
+                return Report {
+                    connection,
+                    place: here,
+                    stop,
+                };
+            }
+            Turned::On(after, next, end) => {
+                connection = after;
+                at = next;
+                put = end;
+                applied = number;
+            }
+        }
+    }
+    let here = Place { at, applied, put };
+    Report {
+        connection,
+        place: here,
+        stop: Stop::Spent,
+    }
+}
