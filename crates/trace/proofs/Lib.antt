@@ -7,3 +7,4 @@ pub mod Showing
 pub mod Turning
 pub mod Running
 pub mod Keeping
+pub mod Whole

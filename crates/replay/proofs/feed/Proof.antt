@@ -1,0 +1,57 @@
+-- `replay::feed` meets its contract: what was kept and what was read are inside the buffer. Assumes nothing.
+use mathlib.Core.Path.{refl}
+use borrow.Author.Needs.{needs}
+use native.Mathlib.Omega.{arith}
+use Rattle.replay.proofs.feed.Statement.{statement}
+use Rattle.replay.proofs.feed.Tie as tie
+
+keep-rest-requires : tie.Need-keep-rest-requires
+keep-rest-requires c κs = search needs
+
+read-more-requires : tie.Need-read-more-requires
+read-more-requires c κs = search needs
+
+enum-known-got : tie.Need-enum-known-got
+enum-known-got c = search needs
+
+enum-told : tie.Need-enum-told
+enum-told c = search needs
+
+enum-told-2 : tie.Need-enum-told-2
+enum-told-2 c = search needs
+
+same-length : tie.Need-same-length
+same-length c = search needs
+
+returns : tie.Need-returns
+returns c =
+    let e = rw (c .before .got .given .1) at (c .before .before .before .before .before .read-more .ensures) in
+    (omega arith, omega (arith, e, c .before .before .before .before .before .before .before .before .before .before .keep-rest .kept .0), refl)
+
+same-length-2 : tie.Need-same-length-2
+same-length-2 c = search needs
+
+returns-2 : tie.Need-returns-2
+returns-2 c = search needs
+
+same-length-3 : tie.Need-same-length-3
+same-length-3 c = search needs
+
+returns-3 : tie.Need-returns-3
+returns-3 c = search needs
+
+pub feed-spec : {M : Type 1} → statement M
+feed-spec =
+    tie.close
+    (tie.spec
+    keep-rest-requires
+    read-more-requires
+    enum-known-got
+    enum-told
+    enum-told-2
+    same-length
+    returns
+    same-length-2
+    returns-2
+    same-length-3
+    returns-3)

@@ -1,0 +1,18 @@
+-- `replay::flush` meets its contract. Assumes nothing.
+use mathlib.Core.Path.{sym}
+use lib.Seq.{length-take-le}
+use borrow.Author.Needs.{needs}
+use Rattle.replay.proofs.flush.Statement.{statement}
+use Rattle.replay.proofs.flush.Tie as tie
+
+slice-aggregate-write-out : tie.Need-slice-aggregate-write-out
+slice-aggregate-write-out c = sym (length-take-le _ _ (c .before .before .pre))
+
+write-out-requires : tie.Need-write-out-requires
+write-out-requires c κs = search needs
+
+returns : tie.Need-returns
+returns c = search needs
+
+pub flush-spec : {M : Type 1} → statement M
+flush-spec = tie.close (tie.spec slice-aggregate-write-out write-out-requires returns)

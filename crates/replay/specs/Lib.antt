@@ -1,0 +1,2 @@
+-- What the program's functions rely on.
+pub mod Places

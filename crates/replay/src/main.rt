@@ -1,0 +1,386 @@
+// Replays a trace: standard input in parts, and to standard output a line for each event and the last line.
+ghost use mathlib.Core.Path.{_≡_};
+ghost use Prim.Native.Nat.{_≤_};
+ghost use lib.ListN.{length};
+ghost use Rattle.replay.specs.Places.{Sound, Inside};
+use connection::Connection;
+use lines::Put;
+use opening::Created;
+use rules::Settings;
+use trace::Begun;
+use trace::Place;
+use trace::Stop;
+
+// Where the program stands: the events applied, the input read and not yet taken, the lines not yet written, and whether the
+// input has ended and all is done.
+struct State {
+    connection: Connection,
+    applied: u64,
+    at: usize,
+    have: usize,
+    put: usize,
+    ended: bool,
+    done: bool,
+}
+
+// What a read of standard input brought: as many bytes are there now, or it has ended, or it failed.
+enum Got {
+    More(usize),
+    End,
+    Failed,
+}
+
+const ALLOWANCE: u64 = 1000000;
+
+// Reads once, after the first bytes of the buffer.
+fn read_more(src: &mut [u8], have: usize) -> Got
+    requires { ⌜ have ≤ length (now src) ⌝ }
+    ensures { λ r. ⌜ Inside (length (now (src .entry))) r ⌝ }
+{
+    let got = libc::read(0, &mut src[have..]);
+    if got < 0 {
+        io::write_all(2, b"replay: cannot read standard input\n");
+        return Got::Failed;
+    }
+    if got == 0 {
+        return Got::End;
+    }
+    let n = io::count(got, &src[have..]);
+    Got::More(have + n)
+}
+
+// Writes to standard output, and says so where it cannot.
+fn write_out(out: &[u8]) -> bool {
+    let written = io::write_all(1, out);
+    if !written {
+        io::write_all(2, b"replay: cannot write standard output\n");
+    }
+    written
+}
+
+// Writes what was put into the buffer.
+fn write_put(out: &[u8], put: Put) {
+    match put {
+        Put::At(end) => {
+            if end <= out.len() {
+                write_out(&out[..end]);
+            }
+        }
+        Put::Full => {}
+    }
+}
+
+// Writes the lines that there are.
+fn flush(state: State, out: &[u8]) -> State
+    requires { ⌜ state .put ≤ length (now out) ⌝ }
+    ensures { λ r. ⌜ (r .at ≡ state .at) × (r .have ≡ state .have) × (r .put ≡ 0) ⌝ }
+{
+    let put = state.put;
+    let written = write_out(&out[..put]);
+    let connection = state.connection;
+    State {
+        connection,
+        applied: state.applied,
+        at: state.at,
+        have: state.have,
+        put: 0,
+        ended: state.ended,
+        done: !written,
+    }
+}
+
+// Moves what is left of the input to the front of the buffer, and reads more.
+fn feed(state: State, src: &mut [u8]) -> State
+    ensures { λ r. ⌜ (r .at ≤ r .have) × (r .have ≤ length (now (src .entry))) × (r .put ≡ state .put) ⌝ }
+{
+    let kept = trace::keep_rest(src, state.at, state.have);
+    let connection = state.connection;
+    let got = read_more(src, kept);
+    match got {
+        Got::More(have) => State {
+            connection,
+            applied: state.applied,
+            at: 0,
+            have,
+            put: state.put,
+            ended: false,
+            done: false,
+        },
+        Got::End => State {
+            connection,
+            applied: state.applied,
+            at: 0,
+            have: kept,
+            put: state.put,
+            ended: true,
+            done: false,
+        },
+        Got::Failed => State {
+            connection,
+            applied: state.applied,
+            at: 0,
+            have: kept,
+            put: state.put,
+            ended: true,
+            done: true,
+        },
+    }
+}
+
+// Writes the lines that there are, and the last line.
+fn finish(state: State, stop: Stop, out: &mut [u8]) -> State
+    requires { ⌜ (state .at ≤ state .have) × (state .put ≤ length (now out)) ⌝ }
+    ensures { λ r. ⌜ (r .at ≡ state .at) × (r .have ≡ state .have) × (r .put ≡ 0) ⌝ }
+{
+    let flushed = flush(state, &out[..]);
+    let connection = state.connection;
+    if !flushed.done {
+        let left = state.have - state.at;
+        let put = trace::finish(out, 0, stop, left, state.applied, connection.growth);
+        write_put(&out[..], put);
+    }
+    State {
+        connection,
+        applied: state.applied,
+        at: state.at,
+        have: state.have,
+        put: 0,
+        ended: state.ended,
+        done: true,
+    }
+}
+
+// What follows a run that stopped so.
+fn go_on(state: State, stop: Stop, src: &mut [u8], out: &mut [u8]) -> State
+    requires { ⌜ Sound (length (now src)) (length (now out)) state ⌝ }
+    ensures { λ r. ⌜ Sound (length (now (src .entry))) (length (now (out .entry))) r ⌝ }
+{
+    match stop {
+        Stop::Full => flush(state, &out[..]),
+        Stop::Short => {
+            if state.ended {
+                return finish(state, stop, out);
+            }
+            feed(state, src)
+        }
+        Stop::Bad => finish(state, stop, out),
+        Stop::Spent => finish(state, stop, out),
+        Stop::Size => finish(state, stop, out),
+    }
+}
+
+// Runs over the input that is there, and then reads, writes or ends.
+fn turn(
+    state: State,
+    table: &mut [u64],
+    links: &mut [u32],
+    pool: &mut [u8],
+    sent: &mut [u8],
+    bytes: &mut [u8],
+    src: &mut [u8],
+    out: &mut [u8],
+) -> State
+    requires { ⌜ Sound (length (now src)) (length (now out)) state ⌝ }
+    ensures { λ r. ⌜ Sound (length (now (src .entry))) (length (now (out .entry))) r ⌝ }
+{
+    let connection = state.connection;
+    let have = state.have;
+    let place = Place {
+        at: state.at,
+        applied: state.applied,
+        put: state.put,
+    };
+    let report = trace::run(
+        connection,
+        table,
+        links,
+        pool,
+        sent,
+        bytes,
+        &src[..have],
+        out,
+        place,
+        ALLOWANCE,
+    );
+    let after = report.connection;
+    let here = report.place;
+    let stop = report.stop;
+    let next = State {
+        connection: after,
+        applied: here.applied,
+        at: here.at,
+        have,
+        put: here.put,
+        ended: state.ended,
+        done: false,
+    };
+    go_on(next, stop, src, out)
+}
+
+// Turn by turn. Each reads a byte or more, writes 200,000 or more, or is the last but one: no input comes to as many turns.
+fn play(
+    start: State,
+    table: &mut [u64],
+    links: &mut [u32],
+    pool: &mut [u8],
+    sent: &mut [u8],
+    bytes: &mut [u8],
+    src: &mut [u8],
+    out: &mut [u8],
+)
+    requires { ⌜ Sound (length (now src)) (length (now out)) start ⌝ }
+{
+    let mut state = start;
+    let mut turns = u64::MAX;
+    while 0 < turns {
+        state = turn(state, table, links, pool, sent, bytes, src, out);
+        if state.done {
+            return;
+        }
+        turns = turns - 1;
+    }
+}
+
+fn refuse(out: &mut [u8]) {
+    let put = lines::config_line(out, 0);
+    write_put(&out[..], put);
+}
+
+// Settings that cannot be read.
+fn unreadable(out: &mut [u8]) {
+    let put = trace::finish(out, 0, Stop::Bad, 0, 0, 0);
+    write_put(&out[..], put);
+}
+
+// Makes the connection, and plays the events after the settings.
+fn start(
+    settings: Settings,
+    table: &mut [u64],
+    links: &mut [u32],
+    pool: &mut [u8],
+    sent: &mut [u8],
+    bytes: &mut [u8],
+    src: &mut [u8],
+    out: &mut [u8],
+    at: usize,
+    have: usize,
+)
+    requires { ⌜ (at ≤ have) × (have ≤ length (now src)) ⌝ }
+{
+    let created = opening::new(settings, table, links, pool);
+    match created {
+        Created::Made(connection) => {
+            let state = State {
+                connection,
+                applied: 0,
+                at,
+                have,
+                put: 0,
+                ended: false,
+                done: false,
+            };
+            play(state, table, links, pool, sent, bytes, src, out);
+        }
+        Created::Wrong(_) => refuse(out),
+        Created::Size => refuse(out),
+    }
+}
+
+// Settings that the input ends within, unless it cannot be read.
+fn cut_short(src: &mut [u8], out: &mut [u8]) {
+    let got = read_more(src, 0);
+    match got {
+        Got::More(_) => unreadable(out),
+        Got::End => unreadable(out),
+        Got::Failed => {}
+    }
+}
+
+// Reads the first bytes: more than settings take, unless the input ends.
+fn read_first(src: &mut [u8]) -> usize
+    requires { ⌜ 100 ≤ length (now src) ⌝ }
+    ensures { λ r. ⌜ r ≤ length (now (src .entry)) ⌝ }
+{
+    io::read_full(0, &mut src[..100])
+}
+
+// Plays standard input in lent memory, which is enough for 300 slots and a pool of 16,384 bytes.
+fn replay(
+    table: &mut [u64],
+    links: &mut [u32],
+    pool: &mut [u8],
+    sent: &mut [u8],
+    bytes: &mut [u8],
+    src: &mut [u8],
+    out: &mut [u8],
+)
+    requires { ⌜ (2700 ≤ length (now table)) × (616 ≤ length (now links)) × (630784 ≤ length (now pool)) × (100 ≤ length (now src)) ⌝ }
+{
+    let have = read_first(src);
+    let begun = trace::begin(&src[..have]);
+    match begun {
+        Begun::Fine(settings, sizes, next) => {
+            let a = sizes.table;
+            let b = sizes.links;
+            let p = sizes.pool;
+            start(
+                settings,
+                &mut table[..a],
+                &mut links[..b],
+                &mut pool[..p],
+                sent,
+                bytes,
+                src,
+                out,
+                next,
+                have,
+            );
+        }
+        Begun::Refused => refuse(out),
+        Begun::Short => cut_short(src, out),
+        Begun::Bad => unreadable(out),
+    }
+}
+
+fn large_buffer() -> [u8; 262144]
+    ensures { λ r. ⌜ 262144 ≡ length r ⌝ }
+{
+    [0; 262144]
+}
+
+fn largest_pool() -> [u8; 630784]
+    ensures { λ r. ⌜ 630784 ≡ length r ⌝ }
+{
+    [0; 630784]
+}
+
+fn largest_table() -> [u64; 2700]
+    ensures { λ r. ⌜ 2700 ≡ length r ⌝ }
+{
+    [0; 2700]
+}
+
+fn largest_links() -> [u32; 616]
+    ensures { λ r. ⌜ 616 ≡ length r ⌝ }
+{
+    [0; 616]
+}
+
+fn main() {
+    let mut table = largest_table();
+    let mut links = largest_links();
+    let mut pool = largest_pool();
+    let mut sent = [0u8; 12];
+    let mut bytes = [0u8; 16384];
+    let mut src = large_buffer();
+    let mut out = large_buffer();
+    replay(
+        &mut table,
+        &mut links,
+        &mut pool,
+        &mut sent,
+        &mut bytes,
+        &mut src,
+        &mut out,
+    );
+}
