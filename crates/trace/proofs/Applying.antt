@@ -2,7 +2,7 @@
 -- only a read gives bytes. Assumes nothing.
 use mathlib.Core.Path.{_≡_, refl, sym, ap, subst, _∙_}
 use mathlib.Core.Bool.{Bool, true, false, cond}
-use mathlib.Core.List.{List, [], _++_, append-assoc}
+use mathlib.Core.List.{List, [], _∷_, _++_, append-assoc}
 use Prim.Native.Nat.{ℕ, _+_, _-_, _≤_, _<_}
 use native.Mathlib.Omega.{arith}
 use lib.Dec.{ltb, eqb}
@@ -29,9 +29,12 @@ use Rattle.rules.specs.Calls.{readRules, writeRules, closeRules, dropRules}
 use Rattle.stream.specs.declared.Sent.{Sent}
 use Rattle.reading.specs.Promises as reading
 use Rattle.events.specs.Calls.{Found, call, short, bad, part, foundIn}
+use types.Run.{OneOf, miss}
+use denote.Enum.Declared.{tagOf}
+use Rattle.events.proofs.Event.{the-type}
 use Rattle.events.specs.declared.Event.{Event}
 use Rattle.events.specs.declared.Event.the-variants as event
-use Rattle.trace.specs.Applies.{slotOf, Applied, Applies}
+use Rattle.trace.specs.Applies.{slotOf, Carried, Applied, Applies}
 use Rattle.trace.proofs.Silent.{Silent, Headless, tick-silent, frame-silent, open-silent, open-headless, gone-silent, gone-headless, write-silent, close-silent, drop-silent}
 
 -- ---- a slot above every K
@@ -59,6 +62,40 @@ abbrev pub NoCall : Found → Type 0
 NoCall (call x next) = ⊥
 NoCall short = Unit {0}
 NoCall bad = Unit {0}
+
+-- ---- the arms of the dispatch, by the tags of their events
+
+abbrev leftTags : List ℕ
+leftTags = 1 ∷ 3 ∷ 8 ∷ 9 ∷ []
+
+abbrev refusedTags : List ℕ
+refusedTags = 0 ∷ 2 ∷ 4 ∷ 5 ∷ 6 ∷ 7 ∷ 8 ∷ 9 ∷ []
+
+-- what `apply` leaves to `carry`
+pub left-over : (e : Event) → OneOf leftTags (tagOf the-type e) → Carried e
+left-over (event.Tick now q) h = miss leftTags 0 tt h
+left-over (event.Frame now head body q) h = tt
+left-over (event.Open now q) h = miss leftTags 2 tt h
+left-over (event.Read now slot count q) h = tt
+left-over (event.Write now slot start q) h = miss leftTags 4 tt h
+left-over (event.Close now slot q) h = miss leftTags 5 tt h
+left-over (event.Drop now slot q) h = miss leftTags 6 tt h
+left-over (event.Gone now q) h = miss leftTags 7 tt h
+left-over event.Short h = tt
+left-over event.Bad h = tt
+
+-- what `carry` refuses stands for no call
+pub no-carry : (s : List ℕ) (e : Event) → OneOf refusedTags (tagOf the-type e) → Carried e → NoCall (foundIn s e)
+no-carry s (event.Tick now q) h k = absurd k
+no-carry s (event.Frame now head body q) h k = absurd (miss refusedTags 1 tt h)
+no-carry s (event.Open now q) h k = absurd k
+no-carry s (event.Read now slot count q) h k = absurd (miss refusedTags 3 tt h)
+no-carry s (event.Write now slot start q) h k = absurd k
+no-carry s (event.Close now slot q) h k = absurd k
+no-carry s (event.Drop now slot q) h k = absurd k
+no-carry s (event.Gone now q) h k = absurd k
+no-carry s event.Short h k = tt
+no-carry s event.Bad h k = tt
 
 module _ (c : Connection) (t l p sent : List ℕ) where
   -- the event stands for this call

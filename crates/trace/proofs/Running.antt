@@ -17,7 +17,7 @@ use Rattle.memory.specs.Counts.{fits}
 use Rattle.memory.proofs.Laws.{never}
 use Rattle.trace.specs.Applies.{sized}
 use Rattle.trace.specs.Runs.{Ran, Room, only, stopped, wrote, runs, resumed}
-use Rattle.trace.specs.Turns.{Halts, Stepped, Goes, RanAs, runsFrom, Bounds, Runs, Reached}
+use Rattle.trace.specs.Turns.{Halts, Stepped, Goes, RanAs, runsFrom, Bounds, stoppedAt, Runs, Reached}
 use Rattle.trace.specs.declared.Stop.{Stop}
 use Rattle.trace.specs.declared.Stop.the-variants as stop
 use Rattle.trace.specs.declared.Place.{Place}

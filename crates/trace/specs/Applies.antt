@@ -43,6 +43,19 @@ abbrev pub Applies : Connection → List ℕ → List ℕ → List ℕ → List 
 Applies c t l p sent s e d t′ l′ p′ sent′ bytes′ =
     (x : Call) (next : ℕ) → foundIn s e ≡ call x next → Valid c t l p → length sent ≡ 12 → Applied c t l p sent x d t′ l′ p′ sent′ bytes′
 
+-- the events that `apply` leaves to `carry`, and what is no event
+abbrev pub Carried : Event → Type 0
+Carried (Tick now next) = ⊥
+Carried (Frame now head body next) = Unit {0}
+Carried (Open now next) = ⊥
+Carried (Read now slot count next) = Unit {0}
+Carried (Write now slot start next) = ⊥
+Carried (Close now slot next) = ⊥
+Carried (Drop now slot next) = ⊥
+Carried (Gone now next) = ⊥
+Carried Short = Unit {0}
+Carried Bad = Unit {0}
+
 -- "a lent table, pool or header of the wrong size", and room for 16,384 bytes read
 abbrev pub sized : Connection → ℕ → ℕ → ℕ → ℕ → ℕ → Bool
 sized c t l p sent bytes = cond (fits (c .memory) t l p) (cond (eqb sent 12) (eqb bytes 16384) false) false

@@ -77,11 +77,15 @@ pub record Goes (c : Connection) (t l p s : List ℕ) (at number : ℕ) (o : Lis
   pub room : end ≤ length o
   pub steps : Valid c t l p → Stepped c t l p s at number o put d after end t′ l′ p′ o′
 
-abbrev pub Turns : Connection → List ℕ → List ℕ → List ℕ → List ℕ → ℕ → ℕ → List ℕ → ℕ → Turned → List ℕ → List ℕ → List ℕ → List ℕ → Type 0
-Turns c t l p s at number o put (turned.Stop why) t′ l′ p′ o′ = Halts t l p s at o put why t′ l′ p′ o′
-Turns c t l p s at number o put (turned.On d after end) t′ l′ p′ o′ = Goes c t l p s at number o put d after end t′ l′ p′ o′
+abbrev pub Turns : Connection → List ℕ → List ℕ → List ℕ → List ℕ → List ℕ → Place → Turned → List ℕ → List ℕ → List ℕ → List ℕ → Type 0
+Turns c t l p s o place (turned.Stop why) t′ l′ p′ o′ = Halts t l p s (place .at) o (place .put) why t′ l′ p′ o′
+Turns c t l p s o place (turned.On d here) t′ l′ p′ o′ =
+    (here .applied ≡ place .applied + 1) × Goes c t l p s (place .at) (place .applied + 1) o (place .put) d (here .at) (here .put) t′ l′ p′ o′
 
 -- ---- a run
+
+abbrev pub stoppedAt : Connection → Place → Stop → Report
+stoppedAt c place why = record { connection = c; place = place; stop = why }
 
 -- A run's answer: valid again, and state, count, places, reason and lines are the definition's.
 pub record RanAs (ran : Ran) (place : Place) (o : List ℕ) (r : Report) (t′ l′ p′ o′ : List ℕ) : Type 0 where
@@ -111,7 +115,7 @@ pub record Bounds (s o : List ℕ) (place : Place) (allowance at applied put : �
 -- nothing changes.
 pub record Runs (sized : Bool) (c : Connection) (t l p s o : List ℕ) (place : Place) (allowance : ℕ) (r : Report) (t′ l′ p′ o′ : List ℕ) : Type 0 where
   pub steps : sized ≡ true → Valid c t l p → RanAs (runsFrom c t l p s o place allowance) place o r t′ l′ p′ o′
-  pub wrong : sized ≡ false → (r ≡ record { connection = c; place = place; stop = stop.Size }) × (t′ ≡ t) × (l′ ≡ l) × (p′ ≡ p) × (o′ ≡ o)
+  pub wrong : sized ≡ false → (r ≡ stoppedAt c place stop.Size) × (t′ ≡ t) × (l′ ≡ l) × (p′ ≡ p) × (o′ ≡ o)
   pub bounds : Bounds s o place allowance (r .place .at) (r .place .applied) (r .place .put)
 
 -- ---- within a run

@@ -1,7 +1,7 @@
 // The call that an event stands for.
 ghost use mathlib.Core.Path.{_≡_};
 ghost use lib.ListN.{length};
-ghost use Rattle.trace.specs.Applies.{slotOf, Lies, Applies};
+ghost use Rattle.trace.specs.Applies.{slotOf, Lies, Carried, Applies};
 use connection::Connection;
 use connection::Done;
 use events::Event;
@@ -20,7 +20,46 @@ fn slot_of(n: u64) -> Slot
     Slot(n as u32)
 }
 
-// Makes the call that an event stands for. What no event is, is refused.
+// Makes the call of an event that brings bytes or takes them. What is none is refused.
+fn carry(
+    c: Connection,
+    table: &mut [u64],
+    links: &mut [u32],
+    pool: &mut [u8],
+    sent: &mut [u8],
+    bytes: &mut [u8],
+    src: &[u8],
+    event: Event,
+) -> Done
+    requires { ⌜ Lies (now src) (length (now bytes)) event ⌝ }
+    ensures { λ r. ⌜ (Carried event → Applies c (now (table .entry)) (now (links .entry)) (now (pool .entry)) (now (sent .entry)) (now (src .entry)) event r (now (table .exit)) (now (links .exit)) (now (pool .exit)) (now (sent .exit)) (now (bytes .exit))) ⌝ }
+{
+    match event {
+        Event::Frame {
+            now,
+            head,
+            body,
+            next,
+        } => {
+            let front = &src[head..body];
+            let rest = &src[body..next];
+            frames::on_frame(c, table, links, pool, sent, front, rest, now)
+        }
+        Event::Read {
+            now,
+            slot,
+            count,
+            next: _,
+        } => {
+            let handle = slot_of(slot);
+            let room = &mut bytes[..count];
+            reading::read(c, table, links, &pool[..], sent, handle, room, now)
+        }
+        _ => connection::refuse(c, Reply::Size),
+    }
+}
+
+// Makes the call that an event stands for.
 pub(crate) fn apply(
     c: Connection,
     table: &mut [u64],
@@ -36,40 +75,7 @@ pub(crate) fn apply(
 {
     match event {
         Event::Tick { now, next: _ } => calls::tick(c, &table[..], sent, now),
-        Event::Frame {
-            now,
-            head,
-            body,
-            next,
-        } => frames::on_frame(
-            c,
-            table,
-            links,
-            pool,
-            sent,
-            &src[head..body],
-            &src[body..next],
-            now,
-        ),
         Event::Open { now, next: _ } => opening::open(c, table, links, pool, now),
-        Event::Read {
-            now,
-            slot,
-            count,
-            next: _,
-        } => {
-            let handle = slot_of(slot);
-            reading::read(
-                c,
-                table,
-                links,
-                &pool[..],
-                sent,
-                handle,
-                &mut bytes[..count],
-                now,
-            )
-        }
         Event::Write {
             now,
             slot,
@@ -88,7 +94,6 @@ pub(crate) fn apply(
             dropping::drop_handle(c, table, links, sent, handle, now)
         }
         Event::Gone { now, next: _ } => calls::peer_gone(c, table, now),
-        Event::Short => connection::refuse(c, Reply::Size),
-        Event::Bad => connection::refuse(c, Reply::Size),
+        _ => carry(c, table, links, pool, sent, bytes, src, event),
     }
 }

@@ -8,11 +8,12 @@ pub use ends::begin;
 pub use ends::finish;
 pub use ends::keep_rest;
 ghost use mathlib.Core.Path.{_≡_};
-ghost use Prim.Native.Nat.{_+_, _-_, _≤_, min};
+ghost use mathlib.Core.Bool.{true};
+ghost use Prim.Native.Nat.{_+_, _-_, _≤_, _<_, min};
 ghost use lib.ListN.{length};
 ghost use Rattle.lines.specs.Writing.{Stores, longestLine};
 ghost use Rattle.trace.specs.Applies.{sized};
-ghost use Rattle.trace.specs.Turns.{nextOf, headerSize, shownLine, Turns, Runs};
+ghost use Rattle.trace.specs.Turns.{nextOf, headerSize, shownLine, Turns, stoppedAt, Runs};
 use connection::Connection;
 use connection::Done;
 use events::Event;
@@ -51,9 +52,9 @@ enum Next {
     Stop(Stop),
 }
 
-// The connection after an event, and the places after it and after its line; or why it was not applied.
+// The connection after an event, and where the run stands then; or why the event was not applied.
 enum Turned {
-    On(Connection, usize, usize),
+    On(Connection, Place),
     Stop(Stop),
 }
 
@@ -172,7 +173,7 @@ fn show(done: Done, sent: &[u8], bytes: &[u8], number: u64, out: &mut [u8], put:
     }
 }
 
-// Applies the event at a place and writes its line, which has this number.
+// Applies the event at a place and writes its line.
 fn turn(
     c: Connection,
     table: &mut [u64],
@@ -181,29 +182,69 @@ fn turn(
     sent: &mut [u8],
     bytes: &mut [u8],
     src: &[u8],
-    at: usize,
-    number: u64,
     out: &mut [u8],
-    put: usize,
+    place: Place,
 ) -> Turned
-    requires { ⌜ (length (now sent) ≡ 12) × (length (now bytes) ≡ 16384) ⌝ }
-    ensures { λ r. ⌜ Turns c (now (table .entry)) (now (links .entry)) (now (pool .entry)) (now (src .entry)) at number (now (out .entry)) put r (now (table .exit)) (now (links .exit)) (now (pool .exit)) (now (out .exit)) ⌝ }
+    requires { ⌜ (length (now sent) ≡ 12) × (length (now bytes) ≡ 16384) × (place .applied < 18446744073709551615) ⌝ }
+    ensures { λ r. ⌜ Turns c (now (table .entry)) (now (links .entry)) (now (pool .entry)) (now (src .entry)) (now (out .entry)) place r (now (table .exit)) (now (links .exit)) (now (pool .exit)) (now (out .exit)) ⌝ }
 {
-    let event = events::read_event(src, at);
+    let event = events::read_event(src, place.at);
     let found = after(event);
     match found {
         Next::Stop(stop) => Turned::Stop(stop),
-        Next::At(next) => {
-            let left = room(out.len(), put);
+        Next::At(at) => {
+            let left = room(out.len(), place.put);
             if left < LONGEST_LINE {
                 return Turned::Stop(Stop::Full);
             }
             let done = apply::apply(c, table, links, pool, sent, bytes, src, event);
-            let end = show(done, &sent[..], &bytes[..], number, out, put);
+            let applied = place.applied + 1;
+            let put = show(done, &sent[..], &bytes[..], applied, out, place.put);
             let connection = done.connection;
-            Turned::On(connection, next, end)
+            Turned::On(connection, Place { at, applied, put })
         }
     }
+}
+
+fn stopped(connection: Connection, place: Place, stop: Stop) -> Report
+    ensures { λ r. ⌜ r ≡ stoppedAt connection place stop ⌝ }
+{
+    Report {
+        connection,
+        place,
+        stop,
+    }
+}
+
+// Applies events while fewer than `allowance` are applied. All that is lent has its size.
+fn go(
+    c: Connection,
+    table: &mut [u64],
+    links: &mut [u32],
+    pool: &mut [u8],
+    sent: &mut [u8],
+    bytes: &mut [u8],
+    src: &[u8],
+    out: &mut [u8],
+    place: Place,
+    allowance: u64,
+) -> Report
+    requires { ⌜ (length (now sent) ≡ 12) × (length (now bytes) ≡ 16384) ⌝ }
+    ensures { λ r. ⌜ Runs true c (now (table .entry)) (now (links .entry)) (now (pool .entry)) (now (src .entry)) (now (out .entry)) place allowance r (now (table .exit)) (now (links .exit)) (now (pool .exit)) (now (out .exit)) ⌝ }
+{
+    let mut connection = c;
+    let mut here = place;
+    while here.applied < allowance {
+        let turned = turn(connection, table, links, pool, sent, bytes, src, out, here);
+        match turned {
+            Turned::Stop(stop) => return stopped(connection, here, stop),
+            Turned::On(after, next) => {
+                connection = after;
+                here = next;
+            }
+        }
+    }
+    stopped(connection, here, Stop::Spent)
 }
 
 // Applies the events from a place on while fewer than `allowance` are applied, and writes their lines. `sent` and `bytes` are
@@ -231,52 +272,18 @@ pub fn run(
         bytes.len(),
     );
     if !right {
-        return Report {
-            connection: c,
-            place,
-            stop: Stop::Size,
-        };
+        return stopped(c, place, Stop::Size);
     }
-    let mut connection = c;
-    let mut at = place.at;
-    let mut applied = place.applied;
-    let mut put = place.put;
-    while applied < allowance {
-        let number = applied + 1;
-        let turned = turn(
-            connection,
-            table,
-            links,
-            pool,
-            sent,
-            bytes,
-            src,
-            at,
-            number,
-            out,
-            put,
-        );
-        match turned {
-            Turned::Stop(stop) => {
-                let here = Place { at, applied, put };
-                return Report {
-                    connection,
-                    place: here,
-                    stop,
-                };
-            }
-            Turned::On(after, next, end) => {
-                connection = after;
-                at = next;
-                put = end;
-                applied = number;
-            }
-        }
-    }
-    let here = Place { at, applied, put };
-    Report {
-        connection,
-        place: here,
-        stop: Stop::Spent,
-    }
+    go(
+        c,
+        table,
+        links,
+        pool,
+        sent,
+        bytes,
+        src,
+        out,
+        place,
+        allowance,
+    )
 }

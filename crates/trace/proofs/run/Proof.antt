@@ -1,145 +1,60 @@
--- `trace::run` meets its contract. The loop's invariant: the events applied are the start of the definition's run, and what is left
--- of it starts where the loop stands. The measure is the allowance that is left. Assumes nothing.
+-- `trace::run` meets its contract: a wrong size is told, and else the run is the definition's. Assumes nothing.
 use mathlib.Core.Path.{sym, _∙_}
-use Prim.Native.Nat.{_-_}
-use borrow.Author.Tests.{not-true, not-false}
-use Rattle.trace.proofs.Running.{Standing, standing, turned, unsized-runs, halted-runs, spent-runs, sizes, less-left}
 use borrow.Author.Needs.{needs}
-use native.Mathlib.Omega.{arith}
+use borrow.Author.Tests.{not-true, not-false}
+use Rattle.trace.proofs.Running.{unsized-runs, sizes}
 use Rattle.trace.proofs.run.Statement.{statement}
 use Rattle.trace.proofs.run.Tie as tie
 
-abbrev Inv-loop : tie.InvT-loop
-Inv-loop table₀ links₀ pool₀ sent₀ bytes₀ src out₀ allowance right connection₀ at₀ applied₀ put₀ table links pool sent bytes out connection at applied put =
-    Standing connection₀ table₀ links₀ pool₀ sent₀ bytes₀ src out₀ (record { at = at₀; applied = applied₀; put = put₀ }) allowance connection table links pool sent bytes out at applied put
-
-abbrev μ-loop : tie.MeasureT-loop
-μ-loop table₀ links₀ pool₀ sent₀ bytes₀ src out₀ allowance right connection₀ at₀ applied₀ put₀ table links pool sent bytes out connection at applied put =
-    allowance - applied
-
-sized-requires : tie.Need-sized-requires Inv-loop μ-loop
+sized-requires : tie.Need-sized-requires
 sized-requires c κs = search needs
 
-returns : tie.Need-returns Inv-loop μ-loop
+stopped-requires : tie.Need-stopped-requires
+stopped-requires c κs = search needs
+
+returns : tie.Need-returns
 returns c =
-    let a = c .before .before .before .before .before .before .before .before .before .args in
-    let e = sym (c .before .sized .ensures) ∙ not-true _ (c .if1 .taken) in
-    unsized-runs _ (a .c) (a .table .now) (a .links .now) (a .pool .now) (a .sent .now) (a .bytes .now) (a .src .now) (a .out .now) (a .place) (a .allowance) e
+    let a = c .before .before .before .before .before .before .before .before .before .before .args in
+    let e = sym (c .before .before .sized .ensures) ∙ not-true _ (c .before .if1 .taken) in
+    rw (c .stopped .ensures)
+    (unsized-runs _ (a .c) (a .table .now) (a .links .now) (a .pool .now) (a .sent .now) (a .bytes .now) (a .src .now) (a .out .now) (a .place) (a .allowance) e)
 
-loop-holds : tie.Need-loop-holds Inv-loop μ-loop
-loop-holds c =
-    let a = c .before .before .before .before .before .before .before .before .before .args in
-    let e = sym (c .before .sized .ensures) ∙ not-false _ (c .if1 .left) in
-    let z = sizes (a .c) _ _ _ _ _ e in
-    standing (a .c) (a .table .now) (a .links .now) (a .pool .now) (a .src .now) (a .out .now) (a .place) (a .allowance) (a .sent .now) (a .bytes .now) (z .0) (z .1)
+go-requires : tie.Need-go-requires
+go-requires c κs = sizes (c .before .before .before .before .before .before .before .before .before .before .before .before .before .before .before .args .c) _ _ _ _ _ (sym (c .before .before .before .before .before .before .before .sized .ensures) ∙ not-false _ (c .before .before .before .before .before .before .if1 .left))
 
-add-number : tie.Need-add-number Inv-loop μ-loop
-add-number c = omega arith
+same-length : tie.Need-same-length
+same-length c = search needs
 
-turn-requires : tie.Need-turn-requires Inv-loop μ-loop
-turn-requires c κs =
-    let v = c .before .before .before .before .before .before .before .loop .inv in
-    (v .header, v .scratch)
+same-length-2 : tie.Need-same-length-2
+same-length-2 c = search needs
 
-enum-known-turned : tie.Need-enum-known-turned Inv-loop μ-loop
-enum-known-turned c = search needs
+same-length-3 : tie.Need-same-length-3
+same-length-3 c = search needs
 
-same-length : tie.Need-same-length Inv-loop μ-loop
-same-length c = c .before .before .before .before .before .before .before .before .before .before .before .before .before .before .before .turn .kept .1 .0 ∙ c .before .before .before .before .before .before .before .before .before .before .before .before .before .before .before .before .before .before .before .before .before .before .before .loop .inv .kept .table
+same-length-4 : tie.Need-same-length-4
+same-length-4 c = search needs
 
-same-length-2 : tie.Need-same-length-2 Inv-loop μ-loop
-same-length-2 c = c .before .before .before .before .before .before .before .before .before .before .before .before .before .before .before .turn .kept .1 .1 .0 ∙ c .before .before .before .before .before .before .before .before .before .before .before .before .before .before .before .before .before .before .before .before .before .before .before .loop .inv .kept .links
+same-length-5 : tie.Need-same-length-5
+same-length-5 c = search needs
 
-same-length-3 : tie.Need-same-length-3 Inv-loop μ-loop
-same-length-3 c = c .before .before .before .before .before .before .before .before .before .before .before .before .before .before .before .turn .kept .1 .1 .1 .0 ∙ c .before .before .before .before .before .before .before .before .before .before .before .before .before .before .before .before .before .before .before .before .before .before .before .loop .inv .kept .pool
+same-length-6 : tie.Need-same-length-6
+same-length-6 c = search needs
 
-same-length-4 : tie.Need-same-length-4 Inv-loop μ-loop
-same-length-4 c = c .before .before .before .before .before .before .before .before .before .before .before .before .before .before .before .turn .kept .1 .1 .1 .1 .0 ∙ c .before .before .before .before .before .before .before .before .before .before .before .before .before .before .before .before .before .before .before .before .before .before .before .loop .inv .kept .header
-
-same-length-5 : tie.Need-same-length-5 Inv-loop μ-loop
-same-length-5 c = c .before .before .before .before .before .before .before .before .before .before .before .before .before .before .before .turn .kept .1 .1 .1 .1 .1 .0 ∙ c .before .before .before .before .before .before .before .before .before .before .before .before .before .before .before .before .before .before .before .before .before .before .before .loop .inv .kept .scratch
-
-same-length-6 : tie.Need-same-length-6 Inv-loop μ-loop
-same-length-6 c = c .before .before .before .before .before .before .before .before .before .before .before .before .before .before .before .turn .kept .1 .1 .1 .1 .1 .1 .1 .1 .1 .0 ∙ c .before .before .before .before .before .before .before .before .before .before .before .before .before .before .before .before .before .before .before .before .before .before .before .loop .inv .size
-
-returns-2 : tie.Need-returns-2 Inv-loop μ-loop
-returns-2 c =
-    let a = c .before .before .before .before .before .before .before .before .before .before .before .before .before .before .before .before .before .before .before .before .before .before .before .before .before .before .before .before .before .before .before .before .before .args in
-    let l = c .before .before .before .before .before .before .before .before .before .before .before .before .before .before .before .before .before .before .before .before .before .before .before .loop in
-    let k = c .before .before .before .before .before .before .before .before .before .before .before .before .before .before .before .turn in
-    let e = sym (c .before .before .before .before .before .before .before .before .before .before .before .before .before .before .before .before .before .before .before .before .before .before .before .before .before .sized .ensures) ∙ not-false _ (c .before .before .before .before .before .before .before .before .before .before .before .before .before .before .before .before .before .before .before .before .before .before .before .before .if1 .left) in
-    let told = rw (c .before .turned .given .1) at (k .ensures) in
-    halted-runs _ (a .c) (a .table .now) (a .links .now) (a .pool .now) (a .sent .now) (a .bytes .now) (a .src .now) (a .out .now) (a .place) (a .allowance) e
-    (l .connection) _ _ _ _ _ _ (l .at) (l .applied) (l .put) (l .inv) _ _ _ _ _ (c .before .before .before .before .before .before .before .before .before .before .before .before .before .before .before .before .before .before .before .before .before .before .loop-test .taken) told
-
-enum-known-turned-2 : tie.Need-enum-known-turned-2 Inv-loop μ-loop
-enum-known-turned-2 c = search needs
-
-loop-less : tie.Need-loop-less Inv-loop μ-loop
-loop-less c = less-left _ _ (c .before .before .before .before .before .before .before .before .before .before .before .before .before .before .before .before .before .before .before .before .before .before .loop-test .taken)
-
-loop-again : tie.Need-loop-again Inv-loop μ-loop
-loop-again c =
-    let a = c .before .before .before .before .before .before .before .before .before .before .before .before .before .before .before .before .before .before .before .before .before .before .before .before .before .before .before .before .before .before .before .before .before .args in
-    let l = c .before .before .before .before .before .before .before .before .before .before .before .before .before .before .before .before .before .before .before .before .before .before .before .loop in
-    let k = c .before .before .before .before .before .before .before .before .before .before .before .before .before .before .before .turn in
-    let told = rw (c .before .turned2 .given .1) at (k .ensures) in
-    turned (a .c) (a .table .now) (a .links .now) (a .pool .now) (a .src .now) (a .out .now) (a .place) (a .allowance)
-    (l .connection) _ _ _ _ (l .at) (l .applied) (l .put) (c .before .before .before .before .before .before .before .before .before .before .before .before .before .before .before .before .before .before .before .before .before .before .loop-test .taken) _ _ _ _ _ _ _ (k .kept .1 .1 .1 .1 .1 .1 .1 .1 .1 .0) (a .sent .now) (a .bytes .now) _ _ _ _
-    (record { table = k .kept .1 .0; links = k .kept .1 .1 .0; pool = k .kept .1 .1 .1 .0; header = k .kept .1 .1 .1 .1 .0; scratch = k .kept .1 .1 .1 .1 .1 .0 }) (l .inv) told
-
-same-length-7 : tie.Need-same-length-7 Inv-loop μ-loop
-same-length-7 c = c .before .loop .inv .kept .table
-
-same-length-8 : tie.Need-same-length-8 Inv-loop μ-loop
-same-length-8 c = c .before .loop .inv .kept .links
-
-same-length-9 : tie.Need-same-length-9 Inv-loop μ-loop
-same-length-9 c = c .before .loop .inv .kept .pool
-
-same-length-10 : tie.Need-same-length-10 Inv-loop μ-loop
-same-length-10 c = c .before .loop .inv .kept .header
-
-same-length-11 : tie.Need-same-length-11 Inv-loop μ-loop
-same-length-11 c = c .before .loop .inv .kept .scratch
-
-same-length-12 : tie.Need-same-length-12 Inv-loop μ-loop
-same-length-12 c = c .before .loop .inv .size
-
-returns-3 : tie.Need-returns-3 Inv-loop μ-loop
-returns-3 c =
-    let a = c .before .before .before .before .before .before .before .before .before .before .before .args in
-    let l = c .before .loop in
-    let e = sym (c .before .before .before .sized .ensures) ∙ not-false _ (c .before .before .if1 .left) in
-    spent-runs _ (a .c) (a .table .now) (a .links .now) (a .pool .now) (a .sent .now) (a .bytes .now) (a .src .now) (a .out .now) (a .place) (a .allowance) e
-    (l .connection) _ _ _ _ _ _ (l .at) (l .applied) (l .put) (l .inv) (c .loop-test .left)
+returns-2 : tie.Need-returns-2
+returns-2 c = rw (sym (c .before .before .before .before .before .before .before .before .before .before .before .before .before .before .before .before .before .before .before .before .sized .ensures) ∙ not-false _ (c .before .before .before .before .before .before .before .before .before .before .before .before .before .before .before .before .before .before .before .if1 .left)) (c .before .before .before .before .before .before .before .before .before .before .before .before .go .ensures)
 
 pub run-spec : {M : Type 1} → statement M
 run-spec =
     tie.close
     (tie.spec
-    Inv-loop
-    μ-loop
     sized-requires
+    stopped-requires
     returns
-    loop-holds
-    add-number
-    turn-requires
-    enum-known-turned
+    go-requires
     same-length
     same-length-2
     same-length-3
     same-length-4
     same-length-5
     same-length-6
-    returns-2
-    enum-known-turned-2
-    loop-less
-    loop-again
-    same-length-7
-    same-length-8
-    same-length-9
-    same-length-10
-    same-length-11
-    same-length-12
-    returns-3)
+    returns-2)
