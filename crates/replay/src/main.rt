@@ -2,13 +2,14 @@
 ghost use mathlib.Core.Path.{_≡_};
 ghost use Prim.Native.Nat.{_≤_};
 ghost use lib.ListN.{length};
-ghost use Rattle.replay.specs.Places.{Sound, Inside};
+ghost use Rattle.replay.specs.Places.{placeOf, afterRun, Sound, Inside};
 use connection::Connection;
 use lines::Put;
 use opening::Created;
 use rules::Settings;
 use trace::Begun;
 use trace::Place;
+use trace::Report;
 use trace::Stop;
 
 // Where the program stands: the events applied, the input read and not yet taken, the lines not yet written, and whether the
@@ -169,6 +170,34 @@ fn go_on(state: State, stop: Stop, src: &mut [u8], out: &mut [u8]) -> State
     }
 }
 
+// Where a run starts.
+fn place_of(state: State) -> Place
+    ensures { λ r. ⌜ r ≡ placeOf state ⌝ }
+{
+    Place {
+        at: state.at,
+        applied: state.applied,
+        put: state.put,
+    }
+}
+
+// Where the program stands after a run.
+fn after_run(state: State, report: Report) -> State
+    ensures { λ r. ⌜ r ≡ afterRun state report ⌝ }
+{
+    let connection = report.connection;
+    let here = report.place;
+    State {
+        connection,
+        applied: here.applied,
+        at: here.at,
+        have: state.have,
+        put: here.put,
+        ended: state.ended,
+        done: false,
+    }
+}
+
 // Runs over the input that is there, and then reads, writes or ends.
 fn turn(
     state: State,
@@ -185,11 +214,7 @@ fn turn(
 {
     let connection = state.connection;
     let have = state.have;
-    let place = Place {
-        at: state.at,
-        applied: state.applied,
-        put: state.put,
-    };
+    let place = place_of(state);
     let report = trace::run(
         connection,
         table,
@@ -202,18 +227,8 @@ fn turn(
         place,
         ALLOWANCE,
     );
-    let after = report.connection;
-    let here = report.place;
     let stop = report.stop;
-    let next = State {
-        connection: after,
-        applied: here.applied,
-        at: here.at,
-        have,
-        put: here.put,
-        ended: state.ended,
-        done: false,
-    };
+    let next = after_run(state, report);
     go_on(next, stop, src, out)
 }
 

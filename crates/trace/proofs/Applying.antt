@@ -5,7 +5,7 @@ use mathlib.Core.Bool.{Bool, true, false, cond}
 use mathlib.Core.List.{List, [], _∷_, _++_, append-assoc}
 use Prim.Native.Nat.{ℕ, _+_, _-_, _≤_, _<_}
 use native.Mathlib.Omega.{arith}
-use lib.Dec.{ltb, eqb}
+use lib.Dec.{ltb}
 use lib.ListN.{length, take, drop, length-drop}
 use lib.Seq.{length-take-le, take-append-seam}
 use borrow.Author.Tests.{eq-eqb, ltb-true}
@@ -13,7 +13,6 @@ use Rattle.rules.specs.State.{Conn, entry, vacant}
 use Rattle.rules.specs.Ending.{Result, refuse}
 use Rattle.rules.specs.Step.{Call, step, timed, holding}
 use Rattle.rules.specs.Step as rules
-use Rattle.rules.specs.declared.Reply.{Reply}
 use Rattle.rules.specs.declared.Reply.the-variants as reply
 use Rattle.memory.proofs.Laws.{sized-fits, entry-beyond}
 use Rattle.memory.specs.Counts.{fits}
@@ -21,7 +20,6 @@ use Rattle.connection.specs.Abstract.{absOf, Valid}
 use Rattle.connection.specs.Promises.{Promised, Follows, sentAfter, outAfter}
 use Rattle.connection.specs.declared.Connection.{Connection}
 use Rattle.connection.specs.declared.Done.{Done}
-use Rattle.stream.specs.declared.Sent.the-variants.{Nothing}
 use Rattle.calls.specs.Given.{tableSized, sentSized}
 use Rattle.dropping.specs.Given as dropping
 use Rattle.frames.specs.Handles as frames

@@ -1,9 +1,9 @@
 -- Runs one after another: however a trace is cut, and whatever room there is each time, the lines, the count, the place and
 -- the state are those of one run over the whole. Assumes nothing.
 use mathlib.Core.Path.{_≡_, refl, sym, ap, subst, _∙_}
-use mathlib.Core.Logic.{_⊎_, inl, inr}
+use mathlib.Core.Logic.{inl, inr}
 use mathlib.Core.Bool.{Bool, true, false, cond}
-use mathlib.Core.List.{List, [], _∷_, _++_, append-assoc}
+use mathlib.Core.List.{List, [], _∷_, _++_, append-assoc, append-nil}
 use Prim.Native.Nat.{ℕ, zero, suc, _+_, _-_, _≤_, _<_}
 use native.Mathlib.Nat.{add-zero}
 use native.Mathlib.Omega.{arith}
@@ -147,10 +147,6 @@ module _ (a b : List ℕ) where
               (ih (step c x .after) next (n + 1) (less room (length line))))
 
 -- ---- a trace in parts
-
-pub append-nil : (s : List ℕ) → s ++ [] ≡ s
-append-nil [] = refl
-append-nil (x ∷ s) = ap (λ (r : List ℕ). x ∷ r) (append-nil s)
 
 -- what is left of the first part, and the next, go on where the first stopped
 one-part : (k : ℕ) (c : Conn) (s more : List ℕ) (n : ℕ) (r : Ran) → r .at ≤ length s

@@ -1,28 +1,25 @@
 -- A run, event by event: what was reached, and what is left of the definition's run. Assumes nothing.
 use mathlib.Core.Path.{_≡_, refl, sym, ap, subst, _∙_}
 use mathlib.Core.Bool.{Bool, true, false, cond}
-use mathlib.Core.List.{List, [], _∷_, _++_, append-assoc}
-use Prim.Native.Nat.{ℕ, zero, suc, _+_, _-_, _≤_, _<_}
-use native.Mathlib.Nat.{add-zero, add-assoc}
+use mathlib.Core.List.{List, [], _++_, append-assoc, append-nil}
+use Prim.Native.Nat.{ℕ, suc, _+_, _-_, _≤_, _<_}
+use native.Mathlib.Nat.{add-zero}
 use native.Mathlib.Omega.{arith}
 use lib.Dec.{eqb}
 use lib.ListN.{length, length-append}
 use borrow.Author.Tests.{eqb-true}
 use lib.Seq.{sets}
-use Rattle.rules.specs.State.{Conn}
 use Rattle.connection.specs.Abstract.{absOf, Valid}
 use Rattle.connection.specs.declared.Connection.{Connection}
 use Rattle.lines.proofs.Stored.{sets-then}
 use Rattle.memory.specs.Counts.{fits}
 use Rattle.memory.proofs.Laws.{never}
 use Rattle.trace.specs.Applies.{sized}
-use Rattle.trace.specs.Runs.{Ran, Room, only, stopped, wrote, runs, resumed}
-use Rattle.trace.specs.Turns.{Halts, Stepped, Goes, RanAs, runsFrom, Bounds, stoppedAt, Runs, Reached}
+use Rattle.trace.specs.Runs.{Ran, stopped, wrote, runs, resumed}
+use Rattle.trace.specs.Turns.{Halts, Stepped, Goes, RanAs, runsFrom, Bounds, Runs, Reached}
 use Rattle.trace.specs.declared.Stop.{Stop}
 use Rattle.trace.specs.declared.Stop.the-variants as stop
 use Rattle.trace.specs.declared.Place.{Place}
-use Rattle.trace.specs.declared.Report.{Report}
-use Rattle.trace.proofs.Parts.{append-nil}
 
 resumed-none : (q : Ran) → q ≡ resumed [] 0 q
 resumed-none q = let e : q .applied ≡ 0 + q .applied = omega arith in ap (λ (n : ℕ). record { lines = q .lines; applied = n; at = q .at; after = q .after; why = q .why }) e

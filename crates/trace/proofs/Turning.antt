@@ -1,12 +1,10 @@
 -- One event: where it is not applied a run stops, and where it is, a run goes on after its line. Assumes nothing.
 use mathlib.Core.Path.{_≡_, refl, sym, ap, subst, _∙_}
-use mathlib.Core.Bool.{Bool, true, false, cond}
-use mathlib.Core.List.{List, []}
+use mathlib.Core.List.{List}
 use Prim.Native.Nat.{ℕ, suc, _+_, _-_, _≤_, _<_, min}
 use native.Mathlib.Omega.{arith}
-use lib.Dec.{ltb, eqb}
 use lib.ListN.{length, take, length-take}
-use lib.Seq.{sets, take-all}
+use lib.Seq.{take-all}
 use borrow.Author.Tests.{eq-eqb, lt-ltb, le-ltb}
 use Rattle.frame.proofs.Wire.{length-wire}
 use Rattle.frame.specs.Wire.{wire}
@@ -21,15 +19,14 @@ use Rattle.connection.specs.Promises.{Says, sentAfter}
 use Rattle.connection.specs.declared.Connection.{Connection}
 use Rattle.connection.specs.declared.Done.{Done}
 use Rattle.events.specs.Format.{eventAt}
-use Rattle.events.specs.Calls.{Found, call, short, bad, part, foundIn, callAt, Inside}
+use Rattle.events.specs.Calls.{call, part, foundIn, callAt, Inside}
 use Rattle.events.specs.declared.Event.{Event}
 use Rattle.events.specs.declared.Event.the-variants as event
 use Rattle.events.proofs.Inside.{event-in}
-use Rattle.lines.specs.Line.{lineOf}
 use Rattle.lines.specs.Writing.{Stores, longestLine}
 use Rattle.trace.specs.Runs.{Ran, Room, only, headerBytes, eventLine, stopped, wrote, onFound, runs}
 use Rattle.trace.specs.Applies.{Lies, Applied, Applies}
-use Rattle.trace.specs.Turns.{nextOf, headerSize, shownLine, Halts, Stepped, Goes}
+use Rattle.trace.specs.Turns.{nextOf, headerSize, shownLine, Goes}
 use Rattle.trace.specs.declared.Stop.{Stop}
 use Rattle.trace.specs.declared.Stop.the-variants as stop
 use Rattle.trace.specs.declared.Next.{Next}

@@ -206,6 +206,7 @@ fn turn(
     }
 }
 
+// What a run that stops here returns.
 fn stopped(connection: Connection, place: Place, stop: Stop) -> Report
     ensures { λ r. ⌜ r ≡ stoppedAt connection place stop ⌝ }
 {

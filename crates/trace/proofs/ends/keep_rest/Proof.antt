@@ -1,11 +1,10 @@
 -- `trace::ends::keep_rest` meets its contract. The loop's invariant: the bytes passed stand at the front, and the others where they
 -- were. The measure is the bytes left. Assumes nothing.
-use mathlib.Core.Path.{_≡_, refl, _∙_}
+use mathlib.Core.Path.{_≡_, refl}
 use mathlib.Core.List.{_++_}
 use Prim.Native.Nat.{_+_, _-_, _≤_}
 use lib.ListN.{length, take, drop, length-set}
 use Rattle.trace.proofs.Keeping.{moved, none-before, none-there, all-kept}
-use borrow.Author.Needs.{needs}
 use native.Mathlib.Omega.{arith}
 use Rattle.trace.proofs.ends.keep_rest.Statement.{statement}
 use Rattle.trace.proofs.ends.keep_rest.Tie as tie
