@@ -1,4 +1,6 @@
 // Replays a trace: standard input in parts, and to standard output a line for each event and the last line.
+mod room;
+
 ghost use mathlib.Core.Path.{_≡_};
 ghost use Prim.Native.Nat.{_≤_};
 ghost use lib.ListN.{length};
@@ -357,38 +359,14 @@ fn replay(
     }
 }
 
-fn large_buffer() -> [u8; 262144]
-    ensures { λ r. ⌜ 262144 ≡ length r ⌝ }
-{
-    [0; 262144]
-}
-
-fn largest_pool() -> [u8; 630784]
-    ensures { λ r. ⌜ 630784 ≡ length r ⌝ }
-{
-    [0; 630784]
-}
-
-fn largest_table() -> [u64; 2700]
-    ensures { λ r. ⌜ 2700 ≡ length r ⌝ }
-{
-    [0; 2700]
-}
-
-fn largest_links() -> [u32; 616]
-    ensures { λ r. ⌜ 616 ≡ length r ⌝ }
-{
-    [0; 616]
-}
-
 fn main() {
-    let mut table = largest_table();
-    let mut links = largest_links();
-    let mut pool = largest_pool();
+    let mut table = room::largest_table();
+    let mut links = room::largest_links();
+    let mut pool = room::largest_pool();
     let mut sent = [0u8; 12];
     let mut bytes = [0u8; 16384];
-    let mut src = large_buffer();
-    let mut out = large_buffer();
+    let mut src = room::large_buffer();
+    let mut out = room::large_buffer();
     replay(
         &mut table,
         &mut links,
