@@ -1,6 +1,6 @@
 -- Two outcomes of one call, and what is the same of them. 01: "Reply, frame, bytes read, wakes, table and pool follow from the input".
 -- The one exception is which blocks a queue has: the block numbers in rows, in links and in the free chain, and the pool's bytes that are not
--- unread. The table's hints are beside it: no promise speaks of them, and no rule can see them.
+-- unread. The table's hints and the cells of a free slot's row are beside it: no promise speaks of them, and no rule can see them.
 use mathlib.Core.Path.{_≡_}
 use mathlib.Core.Bool.{Bool, true, false}
 use mathlib.Core.List.{List}
@@ -29,7 +29,7 @@ withHead c b = record {
   };
 }
 
--- two connections in their lent memory: one state, every field but the first free block, and every row but its blocks
+-- two connections in their lent memory: one state, every field but the first free block, and every held row but its blocks
 pub record Alike (c : Connection) (t l p : List ℕ) (c′ : Connection) (t′ l′ p′ : List ℕ) : Type 0 where
   pub state : absOf c t l p ≡ absOf c′ t′ l′ p′
   pub fields : (b : ℕ) → withHead c b ≡ withHead c′ b

@@ -151,7 +151,7 @@ unknownType = rules.frame 0 (0 ∷ 4 ∷ zeros 10) [] ∷ rules.open-stream 0 �
 
 abbrev pub Runs : Type 0
 Runs =
-    -- P of the limit is not enough once more than M handles are held, and limit + (K - M) x 262,144 is the least that is
+    -- P of the limit is not enough once more than M handles are held, and limit + (K - M) x 262,144 is here the least that is
     (replies (ran (client 1 262144 2 262144) handleKeepsRoom .outcomes) ≡ 0 ∷ 0 ∷ 8 ∷ [])
     × (replies (ran (client 1 262144 2 524287) handlesFill .outcomes) ≡ 0 ∷ 0 ∷ 8 ∷ [])
     × (replies (ran (client 1 262144 2 524288) handlesFill .outcomes) ≡ 0 ∷ 0 ∷ 0 ∷ [])

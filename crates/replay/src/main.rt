@@ -313,7 +313,7 @@ fn cut_short(src: &mut [u8], out: &mut [u8]) {
     }
 }
 
-// Reads the first bytes: more than settings take, unless the input ends.
+// Reads the first bytes: as many as settings can take, unless the input ends.
 fn read_first(src: &mut [u8]) -> usize
     requires { ⌜ 100 ≤ length (now src) ⌝ }
     ensures { λ r. ⌜ r ≤ length (now (src .entry)) ⌝ }
