@@ -17,7 +17,7 @@ use Rattle.rules.specs.Step.{step, run}
 use Rattle.rules.specs.Step as rules
 use Rattle.demands.specs.Demands.{heldCount, wouldOpen}
 use Rattle.demands.specs.History.{event}
-use Rattle.demands.specs.Theorems.{GrowthIsASum, GrowthIsWithin, GrowthIsReturned, GrowthStays, WindowsAreWithin, BytesAreKept, UnreadIsTheRest, ReadsGiveTheNext, ReadsGiveAll, UnreadIsWithin, RoomForHandles, RoomForM, RoomForK, IdsAreOurs, IdsRise, NextIdIsAbove, ListedAreDistinct, ListedAreHeld, UnlistedAreClosed, FreeAreVacant, TableIsWithin, RefusalsChangeNothing, OnlyDoneGives, SettingsAreAllowed, SettingsStay}
+use Rattle.demands.specs.Theorems.{endedForReads, GrowthIsASum, GrowthIsWithin, GrowthIsReturned, GrowthStays, WindowsAreWithin, BytesAreKept, UnreadIsTheRest, ReadsGiveTheNext, ReadsGiveAll, UnreadIsWithin, RoomForHandles, RoomForM, RoomForK, IdsAreOurs, IdsRise, NextIdIsAbove, ListedAreDistinct, ListedAreHeld, UnlistedAreClosed, FreeAreVacant, TableIsWithin, RefusalsChangeNothing, OnlyDoneGives, SettingsAreAllowed, SettingsStay}
 use Rattle.demands.proofs.Lists.{split, true-not-false, sum-eq, sum-count}
 use Rattle.demands.proofs.Invariant.{Good, Inv}
 use Rattle.demands.proofs.Sound.{Crowded, moves}
@@ -77,8 +77,8 @@ reads-give-all c now i asked t l h =
     let n = min asked (length (e .bytes)) in
     let u = windowStep c e now in
     rw (timely c now _ t, holds c i _ h)
-    (split (λ (r : Result). r .outcome .bytes ≡ take n (e .bytes)) (cond (c .ended) (cond (c .config .«read_after_close») false true) false)
-    (λ d. let no : cond (c .ended) (cond (c .config .«read_after_close») false true) false ≡ false = rw l in true-not-false d no)
+    (split (λ (r : Result). r .outcome .bytes ≡ take n (e .bytes)) (endedForReads c)
+    (λ d. true-not-false d l)
     (λ d. gives-all c i e u n (eqb n 0) (canRead (u .stream .state)) (eqb-true n 0)))
 
 pub unread-is-within : UnreadIsWithin

@@ -2,7 +2,7 @@
 -- same name in lower case. `Reach c` is any state that accepted settings and any calls lead to.
 use mathlib.Core.Path.{_≡_}
 use mathlib.Core.Logic.{_≢_}
-use mathlib.Core.Bool.{Bool, true, false}
+use mathlib.Core.Bool.{Bool, true, false, cond}
 use mathlib.Core.List.{List, [], _++_}
 use Prim.Native.Nat.{ℕ, _+_, _-_, _*_, _%_, _≤_, _<_, min}
 use lib.ListN.{length, take, drop}
@@ -87,10 +87,14 @@ ReadsGiveTheNext =
     let bytes = step c (rules.read now i asked) .outcome .bytes in
     bytes ≡ take (length bytes) (drop (length (h i .given)) (h i .taken))
 
--- "the oldest min(asked, unread) bytes": on a connection that goes on, a read on a held handle gives so many.
+-- "ended with read-after-close off"
+abbrev pub endedForReads : Conn → Bool
+endedForReads c = cond (c .ended) (cond (c .config .«read_after_close») false true) false
+
+-- "the oldest min(asked, unread) bytes": but for such a connection, a read on a held handle gives so many.
 abbrev pub ReadsGiveAll : Type 0
 ReadsGiveAll =
-    (c : Conn) → (now i asked : ℕ) → now ≤ lastTime → c .ended ≡ false → entry (c .slots) i .held ≡ true →
+    (c : Conn) → (now i asked : ℕ) → now ≤ lastTime → endedForReads c ≡ false → entry (c .slots) i .held ≡ true →
     step c (rules.read now i asked) .outcome .bytes ≡ take (min asked (length (entry (c .slots) i .bytes))) (entry (c .slots) i .bytes)
 
 -- All unread bytes are within the pool, so that "P less all unread bytes" hides nothing.
