@@ -2,6 +2,7 @@
 mod room;
 
 ghost use mathlib.Core.Path.{_≡_};
+ghost use mathlib.Core.Bool.{true};
 ghost use Prim.Native.Nat.{_≤_};
 ghost use lib.ListN.{length};
 ghost use Rattle.replay.specs.Places.{placeOf, afterRun, Sound, Inside};
@@ -76,7 +77,7 @@ fn write_put(out: &[u8], put: Put) {
 // Writes the lines that there are.
 fn flush(state: State, out: &[u8]) -> State
     requires { ⌜ state .put ≤ length (now out) ⌝ }
-    ensures { λ r. ⌜ (r .at ≡ state .at) × (r .have ≡ state .have) × (r .put ≡ 0) ⌝ }
+    ensures { λ r. ⌜ (r .at ≡ state .at) × (r .have ≡ state .have) × (r .put ≡ 0) × (r .connection ≡ state .connection) × (r .applied ≡ state .applied) × (r .ended ≡ state .ended) ⌝ }
 {
     let put = state.put;
     let written = write_out(&out[..put]);
@@ -94,7 +95,7 @@ fn flush(state: State, out: &[u8]) -> State
 
 // Moves what is left of the input to the front of the buffer, and reads more.
 fn feed(state: State, src: &mut [u8]) -> State
-    ensures { λ r. ⌜ (r .at ≤ r .have) × (r .have ≤ length (now (src .entry))) × (r .put ≡ state .put) ⌝ }
+    ensures { λ r. ⌜ (r .at ≤ r .have) × (r .have ≤ length (now (src .entry))) × (r .put ≡ state .put) × (r .at ≡ 0) × (r .connection ≡ state .connection) × (r .applied ≡ state .applied) ⌝ }
 {
     let kept = trace::keep_rest(src, state.at, state.have);
     let connection = state.connection;
@@ -133,7 +134,7 @@ fn feed(state: State, src: &mut [u8]) -> State
 // Writes the lines that there are, and the last line.
 fn finish(state: State, stop: Stop, out: &mut [u8]) -> State
     requires { ⌜ (state .at ≤ state .have) × (state .put ≤ length (now out)) ⌝ }
-    ensures { λ r. ⌜ (r .at ≡ state .at) × (r .have ≡ state .have) × (r .put ≡ 0) ⌝ }
+    ensures { λ r. ⌜ (r .at ≡ state .at) × (r .have ≡ state .have) × (r .put ≡ 0) × (r .connection ≡ state .connection) × (r .applied ≡ state .applied) × (r .done ≡ true) ⌝ }
 {
     let flushed = flush(state, &out[..]);
     let connection = state.connection;

@@ -118,6 +118,10 @@ pub record Runs (sized : Bool) (c : Connection) (t l p s o : List ℕ) (place : 
   pub wrong : sized ≡ false → (r ≡ stoppedAt c place stop.Size) × (t′ ≡ t) × (l′ ≡ l) × (p′ ≡ p) × (o′ ≡ o)
   pub bounds : Bounds s o place allowance (r .place .at) (r .place .applied) (r .place .put)
 
+-- "nothing changed": at a wrong size, what is lent to work with is as it was too
+abbrev pub Untouched : Bool → List ℕ → List ℕ → List ℕ → List ℕ → Type 0
+Untouched sized sent bytes sent′ bytes′ = sized ≡ false → (sent′ ≡ sent) × (bytes′ ≡ bytes)
+
 -- ---- within a run
 
 -- how far a run has come: the lines and the count so far, and what is left of the definition's run

@@ -13,7 +13,7 @@ ghost use Prim.Native.Nat.{_+_, _-_, _≤_, _<_, min};
 ghost use lib.ListN.{length};
 ghost use Rattle.lines.specs.Writing.{Stores, longestLine};
 ghost use Rattle.trace.specs.Applies.{sized};
-ghost use Rattle.trace.specs.Turns.{nextOf, headerSize, shownLine, Turns, stoppedAt, Runs};
+ghost use Rattle.trace.specs.Turns.{nextOf, headerSize, shownLine, Turns, stoppedAt, Runs, Untouched};
 use connection::Connection;
 use connection::Done;
 use events::Event;
@@ -263,6 +263,7 @@ pub fn run(
     allowance: u64,
 ) -> Report
     ensures { λ r. ⌜ Runs (sized c (length (now (table .entry))) (length (now (links .entry))) (length (now (pool .entry))) (length (now (sent .entry))) (length (now (bytes .entry)))) c (now (table .entry)) (now (links .entry)) (now (pool .entry)) (now (src .entry)) (now (out .entry)) place allowance r (now (table .exit)) (now (links .exit)) (now (pool .exit)) (now (out .exit)) ⌝ }
+    ensures { λ _. ⌜ Untouched (sized c (length (now (table .entry))) (length (now (links .entry))) (length (now (pool .entry))) (length (now (sent .entry))) (length (now (bytes .entry)))) (now (sent .entry)) (now (bytes .entry)) (now (sent .exit)) (now (bytes .exit)) ⌝ }
 {
     let right = sized(
         c,

@@ -26,7 +26,7 @@ same-length c = search needs
 returns : tie.Need-returns
 returns c =
     let e = rw (c .before .got .given .1) at (c .before .before .before .before .before .read-more .ensures) in
-    (omega arith, omega (arith, e, c .before .before .before .before .before .before .before .before .before .before .keep-rest .kept .0), refl)
+    (omega arith, omega (arith, e, c .before .before .before .before .before .before .before .before .before .before .keep-rest .kept .0), refl, refl, refl, refl)
 
 same-length-2 : tie.Need-same-length-2
 same-length-2 c = search needs

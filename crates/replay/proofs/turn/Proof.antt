@@ -26,7 +26,7 @@ go-on-requires c κs =
     let p = c .before .before .before .before .before .before .before .before .before .before .before .before .before .before .before .before .before .before .before .before .before .before .before .before .before .before .before .before .before .before .before .before .pre in
     let a = c .before .before .before .before .before .before .before .before .before .before .before .before .before .before .before .before .before .before .before .before .before .before .before .before .before .before .before .before .before .before .before .before .args in
     let k = c .before .before .before .before .before .before .before .before .before .before .before .before .before .before .before .run in
-    let b = rw (c .before .before .before .before .before .before .before .before .before .before .before .before .before .before .before .before .before .before .before .before .before .before .before .place-of .ensures) at (k .ensures .bounds) in
+    let b = rw (c .before .before .before .before .before .before .before .before .before .before .before .before .before .before .before .before .before .before .before .before .before .before .before .place-of .ensures) at (k .ensures .0 .bounds) in
     let n = length-take-le (a .state .have) (a .src .now) (p .1) in
     rw (c .before .before .after-run .ensures)
     (omega (arith, b .inside (omega (arith, n, p .0)), n), p .1, omega (arith, b .room (p .2), k .kept .1 .1 .1 .1 .1 .1 .1 .0))
