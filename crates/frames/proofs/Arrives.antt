@@ -24,8 +24,8 @@ use Rattle.memory.proofs.Laws.{listed-held}
 use Rattle.connection.specs.Abstract.{absOf, Valid}
 use Rattle.connection.specs.declared.Connection.{Connection}
 use Rattle.connection.specs.declared.Done.{Done}
-use Rattle.frames.specs.Shown.{seenAt, vacancyFor, limitsIn, waitAfter, wokenBy, viewAt}
-use Rattle.frames.specs.Handles.{Handles, Sound, Fits, Applies, HandlesData, HandlesUpdate}
+use Rattle.frames.specs.Shown.{seenAt, vacancyFor, limitsIn, waitAfter, wokenBy, viewAt, decided}
+use Rattle.frames.specs.Handles.{Handles, Sound, Fits, Applies, HandlesStream}
 use Rattle.frames.specs.declared.shown.View.{View}
 use Rattle.frames.proofs.Walk.{Closed, data-walk, update-walk}
 use Rattle.frames.proofs.Sees.{sees-limits, sees-vacancy, sees-known, sees-wait, all-fits, all-sound}
@@ -67,14 +67,14 @@ module _ (c : Connection) (t l p : List ℕ) (h : Header) (body : List ℕ) (rul
     after = withOpenWait x (waitAfter (c .«open_wait») h)
 
     -- the action decided from a view
-    abbrev decided : View → Action
-    decided r = q (r .limits) (r .woke) (r .seen .known) (r .vacancy)
+    abbrev asked : View → Action
+    asked r = q (r .limits) (r .woke) (r .seen .known) (r .vacancy)
 
     module _ (f : Found) (finds : Finds t (c .memory .slots) (h .«stream_id») f) where
       abbrev view : View
       view = viewAt c t h f
 
-      shown-same : Valid c t l p → decided view ≡ q (limitsOf x) (wakesOpen x h) (knownAt x h (find S (h .«stream_id»))) (vacancyOf (lowestFree S))
+      shown-same : Valid c t l p → asked view ≡ q (limitsOf x) (wakesOpen x h) (knownAt x h (find S (h .«stream_id»))) (vacancyOf (lowestFree S))
       shown-same v =
           alike (λ a k w. q a (wakesOpen x h) k w) (limitsIn c) (limitsOf x) (seenAt t (c .memory .slots) f h .known) (knownAt x h (find S (h .«stream_id»))) (vacancyFor t (c .memory .slots) h) (vacancyOf (lowestFree S))
           (sees-limits c t l p v) (sees-known c t l p v h f finds)
@@ -82,38 +82,35 @@ module _ (c : Connection) (t l p : List ℕ) (h : Header) (body : List ℕ) (rul
           (with-rst (limitsOf x) (wakesOpen x h) (knownAt x h (find S (h .«stream_id»))) (vacancyOf (lowestFree S)))
           (without-syn (limitsOf x) (wakesOpen x h) (knownAt x h (find S (h .«stream_id»))) (vacancyOf (lowestFree S))))
 
-      shown-rule : Valid c t l p → rule x ≡ perform x after body (decided view)
+      shown-rule : Valid c t l p → rule x ≡ perform x after body (asked view)
       shown-rule v =
           performs x (listed-held (c .memory) t l p (v .memory))
           ∙ ap (λ (a : Conn). perform x a body (q (limitsOf x) (wakesOpen x h) (knownAt x h (find S (h .«stream_id»))) (vacancyOf (lowestFree S)))) (sees-wait c t l p h)
           ∙ ap (λ (a : Action). perform x after body a) (sym (shown-same v))
 
-      shown-handles : (d : Done) (t′ l′ p′ : List ℕ) → Applies c t l p (view .«open_wait») (view .seen .row) (decided view) body d t′ l′ p′ → Handles rule c t l p d t′ l′ p′
+      shown-handles : (d : Done) (t′ l′ p′ : List ℕ) → Applies c t l p (view .«open_wait») (view .seen .row) (asked view) body d t′ l′ p′ → Handles rule c t l p d t′ l′ p′
       shown-handles d t′ l′ p′ a =
-          same-handles c t l p (λ y. perform y (withOpenWait y (waitAfter (c .«open_wait») h)) body (decided view)) rule d t′ l′ p′ shown-rule
+          same-handles c t l p (λ y. perform y (withOpenWait y (waitAfter (c .«open_wait») h)) body (asked view)) rule d t′ l′ p′ shown-rule
           (a (walk Sound (limitsIn c) (wokenBy (c .«open_wait») h) _ _ (all-sound c t f h (length body)))
           (λ v. walk (Fits c t l p (seenAt t (c .memory .slots) f h .row) (length body)) (limitsIn c) (wokenBy (c .«open_wait») h) _ _ (all-fits c t l p v h f finds (length body))))
 
     pub handled : (r : View) → r ≡ viewAt c t h (r .found) → Finds t (c .memory .slots) (h .«stream_id») (r .found)
-        → (d : Done) (t′ l′ p′ : List ℕ) → Applies c t l p (r .«open_wait») (r .seen .row) (decided r) body d t′ l′ p′ → Handles rule c t l p d t′ l′ p′
+        → (d : Done) (t′ l′ p′ : List ℕ) → Applies c t l p (r .«open_wait») (r .seen .row) (asked r) body d t′ l′ p′ → Handles rule c t l p d t′ l′ p′
     handled r e finds d t′ l′ p′ a = shown-handles (r .found) finds d t′ l′ p′ (rw e at a)
 
 module _ (c : Connection) (t l p : List ℕ) (h : Header) (body : List ℕ) (now : ℕ) (r : View) (e : r ≡ viewAt c t h (r .found))
     (finds : Finds t (c .memory .slots) (h .«stream_id») (r .found)) (d : Done) (t′ l′ p′ : List ℕ)
   where
-    pub data-handled : Applies c t l p (r .«open_wait») (r .seen .row) (dataAction (r .limits) (r .woke) (r .seen .known) (r .vacancy) h now) body d t′ l′ p′
-        → HandlesData c t l p h body now d t′ l′ p′
+    -- a Data frame, or a WindowUpdate
+    pub stream-handled : (isData : Bool) → Applies c t l p (r .«open_wait») (r .seen .row) (decided isData r h now) body d t′ l′ p′
+        → HandlesStream isData c t l p h body now d t′ l′ p′
     unfolding frameRules
-    data-handled a n =
+    stream-handled true a n =
         handled c t l p h body (λ x. frameRules tag.Data x h body (find (x .slots) (h .«stream_id»)) now) (λ a b k v. dataAction a b k v h now)
         (λ a b k v. data-with-rst a b k v h now) (λ a b k v. data-without-syn a b k v h now)
         (λ Q a b k v w. data-walk Q a b k v h now (length body) w n)
         (λ x held. data-performs x h now held body n) r e finds d t′ l′ p′ a
-
-    pub update-handled : Applies c t l p (r .«open_wait») (r .seen .row) (updateAction (r .limits) (r .woke) (r .seen .known) (r .vacancy) h now) body d t′ l′ p′
-        → HandlesUpdate c t l p h body now d t′ l′ p′
-    unfolding frameRules
-    update-handled a n =
+    stream-handled false a n =
         handled c t l p h body (λ x. frameRules tag.WindowUpdate x h body (find (x .slots) (h .«stream_id»)) now) (λ a b k v. updateAction a b k v h now)
         (λ a b k v. update-with-rst a b k v h now) (λ a b k v. update-without-syn a b k v h now)
         (λ Q a b k v w. update-walk Q a b k v h now (length body) w n)

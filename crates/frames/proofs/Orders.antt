@@ -45,7 +45,7 @@ use Rattle.connection.specs.declared.Connection.{Connection}
 use Rattle.connection.specs.declared.Done.{Done}
 use Rattle.connection.specs.declared.Gate.the-variants as gate
 use Rattle.frames.specs.Shown.{isFound}
-use Rattle.frames.specs.Handles.{Handles, HandlesPing, HandlesHeader, opened, HandlesOpened, HandlesDecoded, sized}
+use Rattle.frames.specs.Handles.{Handles, HandlesPing, HandlesHeader, opened, HandlesFound, HandlesDecoded, sized}
 use Rattle.frames.proofs.Settling.{refused-handles, over-handles}
 use Rattle.frames.proofs.Arrives.{same-handles}
 
@@ -146,7 +146,7 @@ module _ (c : Connection) (t l p : List ℕ) (f : Decoded) (body : List ℕ) (no
       same-handles c t l p (λ x. refuse x r) (λ x. timed x now (live x (opened f x body now))) (refused c r) t l p
       (λ v. gate-shut (absOf c t l p) (c .ended) now (opened f (absOf c t l p) body now) r e) (refused-handles c t l p r)
 
-  pub open-gate : gateOf (c .ended) now ≡ gate.Open → (d : Done) (t′ l′ p′ : List ℕ) → HandlesOpened c t l p f body now d t′ l′ p′ → HandlesDecoded c t l p f body now d t′ l′ p′
+  pub open-gate : gateOf (c .ended) now ≡ gate.Open → (d : Done) (t′ l′ p′ : List ℕ) → HandlesFound c t l p f body now d t′ l′ p′ → HandlesDecoded c t l p f body now d t′ l′ p′
   open-gate e d t′ l′ p′ =
       same-handles c t l p (λ x. opened f x body now) (λ x. timed x now (live x (opened f x body now))) d t′ l′ p′
       (λ v. gate-open (absOf c t l p) (c .ended) now (opened f (absOf c t l p) body now) e)

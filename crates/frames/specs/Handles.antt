@@ -8,6 +8,7 @@ use lib.Dec.{eqb}
 use Rattle.frame.specs.declared.header.Header.{Header}
 use Rattle.frame.specs.declared.header.Decoded.{Decoded}
 use Rattle.frame.specs.declared.header.Decoded.the-variants as found
+use Rattle.frame.specs.declared.header.Tag.{Tag}
 use Rattle.frame.specs.declared.header.Tag.the-variants as tag
 use Rattle.stream.specs.declared.Sent.the-variants.{Nothing}
 use Rattle.stream.specs.declared.Stream.{Stream}
@@ -85,15 +86,15 @@ Applies c t l p wait row a body d t′ l′ p′ =
 
 -- ---- each type of frame
 
-abbrev pub HandlesData : Connection → List ℕ → List ℕ → List ℕ → Header → List ℕ → ℕ → Done → List ℕ → List ℕ → List ℕ → Type 0
-HandlesData c t l p h body now d t′ l′ p′ =
-    length body ≡ h .length .0
-    → Handles (λ x. frameRules tag.Data x h body (find (x .slots) (h .«stream_id»)) now) c t l p d t′ l′ p′
+-- Data, or else WindowUpdate
+abbrev pub streamTag : Bool → Tag
+streamTag true = tag.Data
+streamTag false = tag.WindowUpdate
 
-abbrev pub HandlesUpdate : Connection → List ℕ → List ℕ → List ℕ → Header → List ℕ → ℕ → Done → List ℕ → List ℕ → List ℕ → Type 0
-HandlesUpdate c t l p h body now d t′ l′ p′ =
-    length body ≡ 0
-    → Handles (λ x. frameRules tag.WindowUpdate x h body (find (x .slots) (h .«stream_id»)) now) c t l p d t′ l′ p′
+abbrev pub HandlesStream : Bool → Connection → List ℕ → List ℕ → List ℕ → Header → List ℕ → ℕ → Done → List ℕ → List ℕ → List ℕ → Type 0
+HandlesStream isData c t l p h body now d t′ l′ p′ =
+    length body ≡ bodyLength (streamTag isData) (h .length .0)
+    → Handles (λ x. frameRules (streamTag isData) x h body (find (x .slots) (h .«stream_id»)) now) c t l p d t′ l′ p′
 
 abbrev pub HandlesPing : Connection → List ℕ → Header → ℕ → Done → Type 0
 HandlesPing c t h now d = (l p : List ℕ) → Handles (λ x. pingRules x h now) c t l p d t l p
@@ -116,8 +117,8 @@ opened (found.Version v) x body now = end x reply.Version
 opened (found.Type n) x body now = end x reply.Type
 opened (found.Header h) x body now = onHeader x h body now
 
-abbrev pub HandlesOpened : Connection → List ℕ → List ℕ → List ℕ → Decoded → List ℕ → ℕ → Done → List ℕ → List ℕ → List ℕ → Type 0
-HandlesOpened c t l p f body now d t′ l′ p′ = Handles (λ x. opened f x body now) c t l p d t′ l′ p′
+abbrev pub HandlesFound : Connection → List ℕ → List ℕ → List ℕ → Decoded → List ℕ → ℕ → Done → List ℕ → List ℕ → List ℕ → Type 0
+HandlesFound c t l p f body now d t′ l′ p′ = Handles (λ x. opened f x body now) c t l p d t′ l′ p′
 
 abbrev pub HandlesDecoded : Connection → List ℕ → List ℕ → List ℕ → Decoded → List ℕ → ℕ → Done → List ℕ → List ℕ → List ℕ → Type 0
 HandlesDecoded c t l p f body now d t′ l′ p′ = Handles (λ x. timed x now (live x (opened f x body now))) c t l p d t′ l′ p′

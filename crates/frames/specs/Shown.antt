@@ -5,6 +5,8 @@ use Prim.Native.Nat.{ℕ, _-_}
 use Rattle.frame.specs.Header.{contains, ack, syn, rst}
 use Rattle.frame.specs.declared.header.Header.{Header}
 use Rattle.handlers.specs.Actions.{acked}
+use Rattle.handlers.specs.Perform.{dataAction, updateAction}
+use Rattle.handlers.specs.declared.Action.{Action}
 use Rattle.handlers.specs.declared.Answer.{Answer}
 use Rattle.handlers.specs.declared.Known.the-variants as known
 use Rattle.handlers.specs.declared.Limits.{Limits}
@@ -60,6 +62,13 @@ viewAt c t h f = record {
   woke = wokenBy (c .«open_wait») h;
   «open_wait» = waitAfter (c .«open_wait») h;
 }
+
+-- what a Data frame does, or else a WindowUpdate, as decided from what its handler is shown
+abbrev pub decided : Bool → View → Header → ℕ → Action
+decided isData r h now =
+    cond isData
+    (dataAction (r .limits) (r .woke) (r .seen .known) (r .vacancy) h now)
+    (updateAction (r .limits) (r .woke) (r .seen .known) (r .vacancy) h now)
 
 -- the connection with this open wait and this memory, and the answer
 abbrev pub settled : Connection → Bool → Memory → Answer → Done

@@ -7,8 +7,8 @@ ghost use lib.ListN.{length};
 ghost use Rattle.connection.specs.Promises.{Promised, Gives};
 ghost use Rattle.rules.specs.Frames.{bodyLength};
 ghost use Rattle.rules.specs.Step.{frame};
-ghost use Rattle.frames.specs.Shown.{settled, isFound};
-ghost use Rattle.frames.specs.Handles.{Applies, HandlesData, HandlesUpdate, HandlesPing, HandlesType, HandlesHeader, HandlesOpened, HandlesDecoded, sized};
+ghost use Rattle.frames.specs.Shown.{settled, isFound, decided};
+ghost use Rattle.frames.specs.Handles.{Applies, HandlesStream, HandlesPing, HandlesType, HandlesHeader, HandlesFound, HandlesDecoded, sized};
 use connection::Connection;
 use connection::Done;
 use connection::Gate;
@@ -21,6 +21,7 @@ use handlers::Action;
 use handlers::Answer;
 use memory::Memory;
 use rules::Reply;
+use shown::View;
 use table::Found;
 use table::row::Row;
 
@@ -90,47 +91,37 @@ fn is_body(header: Header, n: usize) -> bool
     }
 }
 
-// A Data frame with a body of the header's length.
-fn on_data(
-    c: Connection,
-    table: &mut [u64],
-    links: &mut [u32],
-    pool: &mut [u8],
-    header: Header,
-    body: &[u8],
-    time: u64,
-) -> Done
-    ensures { λ r. ⌜ HandlesData c (now (table .entry)) (now (links .entry)) (now (pool .entry)) header (now (body .entry)) time r (now (table .exit)) (now (links .exit)) (now (pool .exit)) ⌝ }
+// What its handler decides: a Data frame's, or a WindowUpdate's.
+fn decide(is_data: bool, view: View, header: Header, time: u64) -> Action
+    ensures { λ r. ⌜ r ≡ decided «is_data» view header time ⌝ }
 {
-    let view = shown::show(c, &table[..], header);
     let limits = view.limits;
     let seen = view.seen;
     let known = seen.known;
-    let row = seen.row;
     let vacancy = view.vacancy;
-    let action = handlers::on_data(limits, view.woke, known, vacancy, header, time);
-    apply(c, table, links, pool, view.open_wait, row, action, body)
+    if is_data {
+        return handlers::on_data(limits, view.woke, known, vacancy, header, time);
+    }
+    handlers::on_window_update(limits, view.woke, known, vacancy, header, time)
 }
 
-// A WindowUpdate without a body.
-fn on_window_update(
+// A Data frame or a WindowUpdate, with a body as long as its header says.
+fn on_stream(
     c: Connection,
     table: &mut [u64],
     links: &mut [u32],
     pool: &mut [u8],
+    is_data: bool,
     header: Header,
     body: &[u8],
     time: u64,
 ) -> Done
-    ensures { λ r. ⌜ HandlesUpdate c (now (table .entry)) (now (links .entry)) (now (pool .entry)) header (now (body .entry)) time r (now (table .exit)) (now (links .exit)) (now (pool .exit)) ⌝ }
+    ensures { λ r. ⌜ HandlesStream «is_data» c (now (table .entry)) (now (links .entry)) (now (pool .entry)) header (now (body .entry)) time r (now (table .exit)) (now (links .exit)) (now (pool .exit)) ⌝ }
 {
     let view = shown::show(c, &table[..], header);
-    let limits = view.limits;
     let seen = view.seen;
-    let known = seen.known;
     let row = seen.row;
-    let vacancy = view.vacancy;
-    let action = handlers::on_window_update(limits, view.woke, known, vacancy, header, time);
+    let action = decide(is_data, view, header, time);
     apply(c, table, links, pool, view.open_wait, row, action, body)
 }
 
@@ -184,8 +175,8 @@ fn on_type(
 {
     let tag = header.tag;
     match tag {
-        Tag::Data => on_data(c, table, links, pool, header, body, time),
-        Tag::WindowUpdate => on_window_update(c, table, links, pool, header, body, time),
+        Tag::Data => on_stream(c, table, links, pool, true, header, body, time),
+        Tag::WindowUpdate => on_stream(c, table, links, pool, false, header, body, time),
         Tag::Ping => on_ping(c, &table[..], header, time),
         Tag::GoAway => connection::end(c, table, Reply::Closed),
     }
@@ -219,7 +210,7 @@ fn on_found(
     body: &[u8],
     time: u64,
 ) -> Done
-    ensures { λ r. ⌜ HandlesOpened c (now (table .entry)) (now (links .entry)) (now (pool .entry)) decoded (now (body .entry)) time r (now (table .exit)) (now (links .exit)) (now (pool .exit)) ⌝ }
+    ensures { λ r. ⌜ HandlesFound c (now (table .entry)) (now (links .entry)) (now (pool .entry)) decoded (now (body .entry)) time r (now (table .exit)) (now (links .exit)) (now (pool .exit)) ⌝ }
 {
     match decoded {
         Decoded::Size => connection::refuse(c, Reply::Size),

@@ -1,2 +1,3 @@
 -- What the program's proofs share.
 pub mod Starting
+pub mod Feeding

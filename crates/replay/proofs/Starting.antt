@@ -19,6 +19,7 @@ use Rattle.events.specs.declared.Typed.{Typed}
 use Rattle.events.specs.declared.Typed.the-variants as typed
 use Rattle.events.proofs.Settings.{settings-in}
 use Rattle.trace.specs.Output.{isSmall, sizesOf, judgedAs, begunAs}
+use Rattle.trace.specs.declared.Stop.the-variants as stop
 use Rattle.trace.specs.declared.ends.Sizes.{Sizes}
 use Rattle.trace.specs.declared.ends.Begun.{Begun}
 use Rattle.trace.specs.declared.ends.Begun.the-variants as begun
@@ -48,9 +49,7 @@ place-is t u z w n m e = cc
 
 abbrev IsFine : Begun → Type 0
 IsFine (begun.Fine t z n) = Unit {0}
-IsFine begun.Refused = ⊥
-IsFine begun.Short = ⊥
-IsFine begun.Bad = ⊥
+IsFine (begun.Stop why) = ⊥
 
 -- the sizes fit, and the place is m
 abbrev Good : ℕ → Sizes → ℕ → Type 0
@@ -60,12 +59,12 @@ module _ (t : Settings) (z : Sizes) (n : ℕ) where
   other : {A : Type 0} (b : Begun) → (IsFine b → ⊥) → b ≡ begun.Fine t z n → A
   other b f e = absurd (f (subst IsFine (sym e) tt))
 
-  small : (u : Settings) (k : Config) (m : ℕ) (b : Bool) → isSmall k ≡ b → cond b (begun.Fine u (sizesOf k) m) begun.Refused ≡ begun.Fine t z n → Good m z n
+  small : (u : Settings) (k : Config) (m : ℕ) (b : Bool) → isSmall k ≡ b → cond b (begun.Fine u (sizesOf k) m) (begun.Stop stop.Refused) ≡ begun.Fine t z n → Good m z n
   small u k m true q e = (subst Fits (sizes-are u t (sizesOf k) z m n e) (small-fits k q), place-is u t (sizesOf k) z m n e)
-  small u k m false q e = other begun.Refused (λ x. x) e
+  small u k m false q e = other (begun.Stop stop.Refused) (λ x. x) e
 
   judged : (u : Settings) (m : ℕ) (c : Checked) → judgedAs c u m ≡ begun.Fine t z n → Good m z n
-  judged u m (settings.Wrong w) e = other begun.Refused (λ x. x) e
+  judged u m (settings.Wrong w) e = other (begun.Stop stop.Refused) (λ x. x) e
   judged u m (settings.Fine k) e = small u k m (isSmall k) refl e
 
   pub begun-fits : (s : List ℕ) → begunAs (settingsAt s) ≡ begun.Fine t z n → Fits z × (n ≤ length s)
@@ -73,5 +72,5 @@ module _ (t : Settings) (z : Sizes) (n : ℕ) where
     where
       go : (x : Typed) → TypedIn s x → begunAs x ≡ begun.Fine t z n → Fits z × (n ≤ length s)
       go (typed.Settings u m) h q = let g = judged u m (checked u) q in (g .0, omega (arith, g .1, h .1))
-      go typed.Short h q = other begun.Short (λ x. x) q
-      go typed.Bad h q = other begun.Bad (λ x. x) q
+      go typed.Short h q = other (begun.Stop stop.Short) (λ x. x) q
+      go typed.Bad h q = other (begun.Stop stop.Bad) (λ x. x) q

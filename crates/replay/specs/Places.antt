@@ -1,6 +1,15 @@
--- Places in the program's buffers.
+-- Places in the program's buffers, and what a turn of the program does to them.
+use mathlib.Core.Path.{_≡_}
+use mathlib.Core.Logic.{_⊎_}
 use mathlib.Core.Bool.{false}
-use Prim.Native.Nat.{ℕ, _≤_}
+use mathlib.Core.List.{List}
+use Prim.Native.Nat.{ℕ, _-_, _≤_}
+use lib.ListN.{length, take}
+use Rattle.lines.specs.declared.Put.{Put}
+use Rattle.trace.specs.Applies.{sized}
+use Rattle.trace.specs.Output.{Finishes, allowance, kept}
+use Rattle.trace.specs.Turns.{Runs}
+use Rattle.trace.specs.declared.Stop.{Stop}
 use Rattle.trace.specs.declared.Place.{Place}
 use Rattle.trace.specs.declared.Report.{Report}
 use Rattle.replay.specs.declared.State.{State}
@@ -27,8 +36,33 @@ afterRun s r = record {
 abbrev pub Sound : ℕ → ℕ → State → Type 0
 Sound input room s = (s .at ≤ s .have) × (s .have ≤ input) × (s .put ≤ room)
 
--- bytes read are inside the buffer
-abbrev pub Inside : ℕ → Got → Type 0
-Inside input (More n) = n ≤ input
-Inside input End = Unit {0}
-Inside input Failed = Unit {0}
+-- nothing but places changes
+abbrev pub Stays : State → State → Type 0
+Stays s s′ = (s′ .connection ≡ s .connection) × (s′ .applied ≡ s .applied)
+
+-- what was not taken of the input stands first in the buffer, and what was read comes after it
+pub record Fed (input : List ℕ) (s s′ : State) (input′ : List ℕ) : Type 0 where
+  pub first : take (length (kept input (s .at) (s .have))) input′ ≡ kept input (s .at) (s .have)
+  pub more : length (kept input (s .at) (s .have)) ≤ s′ .have
+  pub inside : s′ .have ≤ length input
+  pub start : s′ .at ≡ 0
+  pub lines : s′ .put ≡ s .put
+  pub stays : Stays s s′
+
+-- the last line of a run that stopped so stands in the room, unless there was nowhere to write
+abbrev pub Closes : Stop → State → List ℕ → List ℕ → Type 0
+Closes why s room room′ = (room′ ≡ room) ⊎ ((r : Put) × Finishes why (s .have - s .at) (s .applied) (s .connection .growth) room 0 room′ r)
+
+-- A turn is a run over what was read and not yet taken: connection, count, table, links and pool are as it leaves them.
+pub record Played (s : State) (t l p sent bytes input room : List ℕ) (s′ : State) (t′ l′ p′ : List ℕ) : Type 0 where
+  pub report : Report
+  pub written : List ℕ
+  pub runs : Runs (sized (s .connection) (length t) (length l) (length p) (length sent) (length bytes)) (s .connection) t l p (take (s .have) input) room (placeOf s) allowance report t′ l′ p′ written
+  pub connection : s′ .connection ≡ report .connection
+  pub applied : s′ .applied ≡ report .place .applied
+
+-- bytes read come after those that are there, inside the buffer
+abbrev pub Inside : ℕ → ℕ → Got → Type 0
+Inside have input (More n) = (have ≤ n) × (n ≤ input)
+Inside have input End = Unit {0}
+Inside have input Failed = Unit {0}

@@ -4,8 +4,8 @@ mod room;
 ghost use mathlib.Core.Path.{_≡_};
 ghost use mathlib.Core.Bool.{true};
 ghost use Prim.Native.Nat.{_≤_};
-ghost use lib.ListN.{length};
-ghost use Rattle.replay.specs.Places.{placeOf, afterRun, Sound, Inside};
+ghost use lib.ListN.{length, take};
+ghost use Rattle.replay.specs.Places.{placeOf, afterRun, Sound, Stays, Fed, Closes, Played, Inside};
 use connection::Connection;
 use lines::Put;
 use opening::Created;
@@ -39,7 +39,8 @@ const ALLOWANCE: u64 = 1000000;
 // Reads once, after the first bytes of the buffer.
 fn read_more(src: &mut [u8], have: usize) -> Got
     requires { ⌜ have ≤ length (now src) ⌝ }
-    ensures { λ r. ⌜ Inside (length (now (src .entry))) r ⌝ }
+    ensures { λ r. ⌜ Inside have (length (now (src .entry))) r ⌝ }
+    ensures { λ _. ⌜ take have (now (src .exit)) ≡ take have (now (src .entry)) ⌝ }
 {
     let got = libc::read(0, &mut src[have..]);
     if got < 0 {
@@ -77,7 +78,7 @@ fn write_put(out: &[u8], put: Put) {
 // Writes the lines that there are.
 fn flush(state: State, out: &[u8]) -> State
     requires { ⌜ state .put ≤ length (now out) ⌝ }
-    ensures { λ r. ⌜ (r .at ≡ state .at) × (r .have ≡ state .have) × (r .put ≡ 0) × (r .connection ≡ state .connection) × (r .applied ≡ state .applied) × (r .ended ≡ state .ended) ⌝ }
+    ensures { λ r. ⌜ (r .at ≡ state .at) × (r .have ≡ state .have) × (r .put ≡ 0) × (r .ended ≡ state .ended) × Stays state r ⌝ }
 {
     let put = state.put;
     let written = write_out(&out[..put]);
@@ -95,7 +96,7 @@ fn flush(state: State, out: &[u8]) -> State
 
 // Moves what is left of the input to the front of the buffer, and reads more.
 fn feed(state: State, src: &mut [u8]) -> State
-    ensures { λ r. ⌜ (r .at ≤ r .have) × (r .have ≤ length (now (src .entry))) × (r .put ≡ state .put) × (r .at ≡ 0) × (r .connection ≡ state .connection) × (r .applied ≡ state .applied) ⌝ }
+    ensures { λ r. ⌜ Fed (now (src .entry)) state r (now (src .exit)) ⌝ }
 {
     let kept = trace::keep_rest(src, state.at, state.have);
     let connection = state.connection;
@@ -134,7 +135,8 @@ fn feed(state: State, src: &mut [u8]) -> State
 // Writes the lines that there are, and the last line.
 fn finish(state: State, stop: Stop, out: &mut [u8]) -> State
     requires { ⌜ (state .at ≤ state .have) × (state .put ≤ length (now out)) ⌝ }
-    ensures { λ r. ⌜ (r .at ≡ state .at) × (r .have ≡ state .have) × (r .put ≡ 0) × (r .connection ≡ state .connection) × (r .applied ≡ state .applied) × (r .done ≡ true) ⌝ }
+    ensures { λ r. ⌜ (r .at ≡ state .at) × (r .have ≡ state .have) × (r .put ≡ 0) × (r .done ≡ true) × Stays state r ⌝ }
+    ensures { λ _. ⌜ Closes stop state (now (out .entry)) (now (out .exit)) ⌝ }
 {
     let flushed = flush(state, &out[..]);
     let connection = state.connection;
@@ -158,6 +160,7 @@ fn finish(state: State, stop: Stop, out: &mut [u8]) -> State
 fn go_on(state: State, stop: Stop, src: &mut [u8], out: &mut [u8]) -> State
     requires { ⌜ Sound (length (now src)) (length (now out)) state ⌝ }
     ensures { λ r. ⌜ Sound (length (now (src .entry))) (length (now (out .entry))) r ⌝ }
+    ensures { λ r. ⌜ Stays state r ⌝ }
 {
     match stop {
         Stop::Full => flush(state, &out[..]),
@@ -169,7 +172,7 @@ fn go_on(state: State, stop: Stop, src: &mut [u8], out: &mut [u8]) -> State
         }
         Stop::Bad => finish(state, stop, out),
         Stop::Spent => finish(state, stop, out),
-        Stop::Size => finish(state, stop, out),
+        Stop::Refused => finish(state, stop, out),
     }
 }
 
@@ -214,6 +217,7 @@ fn turn(
 ) -> State
     requires { ⌜ Sound (length (now src)) (length (now out)) state ⌝ }
     ensures { λ r. ⌜ Sound (length (now (src .entry))) (length (now (out .entry))) r ⌝ }
+    ensures { λ r. ⌜ Played state (now (table .entry)) (now (links .entry)) (now (pool .entry)) (now (sent .entry)) (now (bytes .entry)) (now (src .entry)) (now (out .entry)) r (now (table .exit)) (now (links .exit)) (now (pool .exit)) ⌝ }
 {
     let connection = state.connection;
     let have = state.have;
@@ -259,14 +263,9 @@ fn play(
     }
 }
 
-fn refuse(out: &mut [u8]) {
-    let put = lines::config_line(out, 0);
-    write_put(&out[..], put);
-}
-
-// Settings that cannot be read.
-fn unreadable(out: &mut [u8]) {
-    let put = trace::finish(out, 0, Stop::Bad, 0, 0, 0);
+// Writes the one line of a trace without an event.
+fn only_line(stop: Stop, out: &mut [u8]) {
+    let put = trace::finish(out, 0, stop, 0, 0, 0);
     write_put(&out[..], put);
 }
 
@@ -299,8 +298,8 @@ fn start(
             };
             play(state, table, links, pool, sent, bytes, src, out);
         }
-        Created::Wrong(_) => refuse(out),
-        Created::Size => refuse(out),
+        Created::Wrong(_) => only_line(Stop::Refused, out),
+        Created::Size => only_line(Stop::Refused, out),
     }
 }
 
@@ -308,9 +307,17 @@ fn start(
 fn cut_short(src: &mut [u8], out: &mut [u8]) {
     let got = read_more(src, 0);
     match got {
-        Got::More(_) => unreadable(out),
-        Got::End => unreadable(out),
+        Got::More(_) => only_line(Stop::Bad, out),
+        Got::End => only_line(Stop::Bad, out),
         Got::Failed => {}
+    }
+}
+
+// Why no event is reached.
+fn reject(stop: Stop, src: &mut [u8], out: &mut [u8]) {
+    match stop {
+        Stop::Short => cut_short(src, out),
+        _ => only_line(stop, out),
     }
 }
 
@@ -354,9 +361,7 @@ fn replay(
                 have,
             );
         }
-        Begun::Refused => refuse(out),
-        Begun::Short => cut_short(src, out),
-        Begun::Bad => unreadable(out),
+        Begun::Stop(stop) => reject(stop, src, out),
     }
 }
 

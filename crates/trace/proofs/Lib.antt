@@ -8,3 +8,4 @@ pub mod Turning
 pub mod Running
 pub mod Keeping
 pub mod Whole
+pub mod Unique

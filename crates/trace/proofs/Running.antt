@@ -170,7 +170,7 @@ module _ (c : Connection) (t l p s o : List ℕ) (place : Place) (allowance : �
 -- ---- the answers of a run
 
 module _ (sz : Bool) (c : Connection) (t l p sent bytes s o : List ℕ) (place : Place) (allowance : ℕ) where
-  pub unsized-runs : sz ≡ false → Runs sz c t l p s o place allowance (record { connection = c; place = place; stop = stop.Size }) t l p o
+  pub unsized-runs : sz ≡ false → Runs sz c t l p s o place allowance (record { connection = c; place = place; stop = stop.Refused }) t l p o
   unsized-runs e = record {
     steps = λ r. never (sym r ∙ e);
     wrong = λ w. (refl, refl, refl, refl, refl);

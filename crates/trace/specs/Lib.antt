@@ -3,3 +3,4 @@ pub mod Runs
 pub mod Applies
 pub mod Turns
 pub mod Output
+pub mod Unique

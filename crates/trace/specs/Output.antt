@@ -1,5 +1,6 @@
 -- How a trace starts and ends, and all that is printed for an input. Sentences are document 01's, "replay".
-use mathlib.Core.Bool.{Bool, true, false, cond}
+use mathlib.Core.Path.{_≡_}
+use mathlib.Core.Bool.{Bool, false, cond}
 use mathlib.Core.List.{List, [], _++_}
 use Prim.Native.Nat.{ℕ, _+_, _-_, _*_}
 use lib.Dec.{ltb, leb}
@@ -16,6 +17,9 @@ use Rattle.events.specs.Format.{settingsAt}
 use Rattle.events.specs.declared.Typed.{Typed}
 use Rattle.events.specs.declared.Typed.the-variants as typed
 use Rattle.lines.specs.Line.{endLine, badLine, configLine}
+use Rattle.lines.specs.Writing.{Writes, lastRoom}
+use Rattle.lines.specs.declared.Put.{Put}
+use Rattle.lines.specs.declared.Put.the-variants as put
 use Rattle.trace.specs.Runs.{Ran, endless, runs}
 use Rattle.trace.specs.declared.Stop.{Stop}
 use Rattle.trace.specs.declared.Stop.the-variants as stop
@@ -35,28 +39,33 @@ sizesOf k = record { table = size (k .slots); links = blocksFor (k .slots) (k .p
 
 -- "a breach being 14, judged once all ten are read"
 abbrev pub judgedAs : Checked → Settings → ℕ → Begun
-judgedAs (settings.Wrong w) t next = begun.Refused
-judgedAs (settings.Fine k) t next = cond (isSmall k) (begun.Fine t (sizesOf k) next) begun.Refused
+judgedAs (settings.Wrong w) t next = begun.Stop stop.Refused
+judgedAs (settings.Fine k) t next = cond (isSmall k) (begun.Fine t (sizesOf k) next) (begun.Stop stop.Refused)
 
 abbrev pub begunAs : Typed → Begun
 begunAs (typed.Settings t next) = judgedAs (checked t) t next
-begunAs typed.Short = begun.Short
-begunAs typed.Bad = begun.Bad
+begunAs typed.Short = begun.Stop stop.Short
+begunAs typed.Bad = begun.Stop stop.Bad
 
 -- ---- the last line
 
--- "An event cut short, a number that breaks the rule above, a count or body above its bound, or a kind above 7, is
--- unreadable": a run that is short of input where bytes are left has an event cut short
-abbrev pub isUnreadable : Stop → ℕ → Bool
-isUnreadable stop.Short left = ltb 0 left
-isUnreadable stop.Bad left = true
-isUnreadable stop.Spent left = false
-isUnreadable stop.Full left = false
-isUnreadable stop.Size left = false
-
--- "Last line `end`, events applied, growth figure; for an unreadable trace `bad` and events applied"
+-- "Last line `end`, events applied, growth figure; for an unreadable trace `bad` and events applied; for reply 14 only `config 14`".
+-- "An event cut short .. is unreadable": a run that is short of input where bytes are left has one. "Used up, it prints the last
+-- line." A run that stopped for room is not over, and has no last line.
 abbrev pub lastLine : Stop → ℕ → ℕ → ℕ → List ℕ
-lastLine why left applied growth = cond (isUnreadable why left) (badLine applied) (endLine applied growth)
+lastLine stop.Short left applied growth = cond (ltb 0 left) (badLine applied) (endLine applied growth)
+lastLine stop.Bad left applied growth = badLine applied
+lastLine stop.Spent left applied growth = endLine applied growth
+lastLine stop.Full left applied growth = []
+lastLine stop.Refused left applied growth = configLine
+
+-- The last line is written where there is room for it. Where the run stopped for room, nothing is, and that is told again.
+abbrev pub Finishes : Stop → ℕ → ℕ → ℕ → List ℕ → ℕ → List ℕ → Put → Type 0
+Finishes stop.Short left applied growth o at o′ r = Writes lastRoom o at (lastLine stop.Short left applied growth) o′ r
+Finishes stop.Bad left applied growth o at o′ r = Writes lastRoom o at (lastLine stop.Bad left applied growth) o′ r
+Finishes stop.Spent left applied growth o at o′ r = Writes lastRoom o at (lastLine stop.Spent left applied growth) o′ r
+Finishes stop.Full left applied growth o at o′ r = (r ≡ put.Full) × (o′ ≡ o)
+Finishes stop.Refused left applied growth o at o′ r = Writes lastRoom o at (lastLine stop.Refused left applied growth) o′ r
 
 -- ---- all that is printed
 

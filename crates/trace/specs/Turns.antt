@@ -115,7 +115,7 @@ pub record Bounds (s o : List ℕ) (place : Place) (allowance at applied put : �
 -- nothing changes.
 pub record Runs (sized : Bool) (c : Connection) (t l p s o : List ℕ) (place : Place) (allowance : ℕ) (r : Report) (t′ l′ p′ o′ : List ℕ) : Type 0 where
   pub steps : sized ≡ true → Valid c t l p → RanAs (runsFrom c t l p s o place allowance) place o r t′ l′ p′ o′
-  pub wrong : sized ≡ false → (r ≡ stoppedAt c place stop.Size) × (t′ ≡ t) × (l′ ≡ l) × (p′ ≡ p) × (o′ ≡ o)
+  pub wrong : sized ≡ false → (r ≡ stoppedAt c place stop.Refused) × (t′ ≡ t) × (l′ ≡ l) × (p′ ≡ p) × (o′ ≡ o)
   pub bounds : Bounds s o place allowance (r .place .at) (r .place .applied) (r .place .put)
 
 -- "nothing changed": at a wrong size, what is lent to work with is as it was too

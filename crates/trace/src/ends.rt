@@ -5,8 +5,7 @@ ghost use Prim.Native.Nat.{_≤_};
 ghost use lib.ListN.{length, drop};
 ghost use Rattle.rules.specs.Settings.{checked};
 ghost use Rattle.events.specs.Format.{settingsAt};
-ghost use Rattle.lines.specs.Writing.{Writes, lastRoom};
-ghost use Rattle.trace.specs.Output.{sizesOf, judgedAs, begunAs, isUnreadable, lastLine, kept};
+ghost use Rattle.trace.specs.Output.{sizesOf, judgedAs, begunAs, Finishes, kept};
 use crate::Stop;
 use events::Typed;
 use lines::Put;
@@ -21,13 +20,10 @@ pub struct Sizes {
     pub pool: usize,
 }
 
-// Settings that a trace may have, what they ask for and the place after them; or a setting is out of range; or the input ends
-// before they do, or they are unreadable.
+// Settings that a trace may have, what they ask for and the place after them; or why no event is reached.
 pub enum Begun {
     Fine(Settings, Sizes, usize),
-    Refused,
-    Short,
-    Bad,
+    Stop(Stop),
 }
 
 const MOST_SLOTS: u32 = 300;
@@ -50,13 +46,13 @@ fn judge(settings: Settings, next: usize) -> Begun
 {
     let checked = settings.check();
     match checked {
-        Checked::Wrong(_) => Begun::Refused,
+        Checked::Wrong(_) => Begun::Stop(Stop::Refused),
         Checked::Fine(config) => {
             if MOST_SLOTS < config.slots {
-                return Begun::Refused;
+                return Begun::Stop(Stop::Refused);
             }
             if MOST_POOL < config.pool {
-                return Begun::Refused;
+                return Begun::Stop(Stop::Refused);
             }
             let sizes = sizes_of(config);
             Begun::Fine(settings, sizes, next)
@@ -71,32 +67,28 @@ pub fn begin(src: &[u8]) -> Begun
     let typed = events::read_settings(src);
     match typed {
         Typed::Settings(settings, next) => judge(settings, next),
-        Typed::Short => Begun::Short,
-        Typed::Bad => Begun::Bad,
+        Typed::Short => Begun::Stop(Stop::Short),
+        Typed::Bad => Begun::Stop(Stop::Bad),
     }
 }
 
-// Whether a trace is unreadable where a run stopped, `left` bytes of it being left.
-fn is_unreadable(stop: Stop, left: usize) -> bool
-    ensures { λ r. ⌜ r ≡ isUnreadable stop left ⌝ }
+// Writes the last line of a trace whose run stopped so, `left` bytes of it being left. A run that stopped for room is not over:
+// nothing is written, and it is told again that there is none.
+pub fn finish(out: &mut [u8], put: usize, stop: Stop, left: usize, applied: u64, growth: u64) -> Put
+    ensures { λ r. ⌜ Finishes stop left applied growth (now (out .entry)) put (now (out .exit)) r ⌝ }
 {
     match stop {
-        Stop::Short => 0 < left,
-        Stop::Bad => true,
-        Stop::Spent => false,
-        Stop::Full => false,
-        Stop::Size => false,
+        Stop::Short => {
+            if 0 < left {
+                return lines::bad_line(out, put, applied);
+            }
+            lines::end_line(out, put, applied, growth)
+        }
+        Stop::Bad => lines::bad_line(out, put, applied),
+        Stop::Spent => lines::end_line(out, put, applied, growth),
+        Stop::Full => Put::Full,
+        Stop::Refused => lines::config_line(out, put),
     }
-}
-
-// Writes the last line of a trace whose run stopped so, `left` bytes of it being left.
-pub fn finish(out: &mut [u8], put: usize, stop: Stop, left: usize, applied: u64, growth: u64) -> Put
-    ensures { λ r. ⌜ Writes lastRoom (now (out .entry)) put (lastLine stop left applied growth) (now (out .exit)) r ⌝ }
-{
-    if is_unreadable(stop, left) {
-        return lines::bad_line(out, put, applied);
-    }
-    lines::end_line(out, put, applied, growth)
 }
 
 // Moves the bytes between two places to the front, and returns how many they are: none where they are not all there.

@@ -23,13 +23,14 @@ use lines::Shown;
 use stream::Sent;
 
 // Why a run stopped: the input ends before or within an event; the next event is unreadable; the allowance is used up; there
-// is less room than the longest line takes; or something lent is of the wrong size, and nothing was applied.
+// is less room than the longest line takes; or reply 14, a setting being out of range or something lent of the wrong size, and
+// nothing was applied.
 pub enum Stop {
     Short,
     Bad,
     Spent,
     Full,
-    Size,
+    Refused,
 }
 
 // Where a run stands: the place in the input, the events applied so far, and the place in the room for lines.
@@ -274,7 +275,7 @@ pub fn run(
         bytes.len(),
     );
     if !right {
-        return stopped(c, place, Stop::Size);
+        return stopped(c, place, Stop::Refused);
     }
     go(
         c,

@@ -8,14 +8,14 @@ use Rattle.frames.proofs.on_type.Tie as tie
 enum-told : tie.Need-enum-told
 enum-told c = search needs
 
-on-data-requires : tie.Need-on-data-requires
-on-data-requires c κs = search needs
+on-stream-requires : tie.Need-on-stream-requires
+on-stream-requires c κs = search needs
 
 enum-told-2 : tie.Need-enum-told-2
 enum-told-2 c = search needs
 
-on-window-update-requires : tie.Need-on-window-update-requires
-on-window-update-requires c κs = search needs
+on-stream-requires-2 : tie.Need-on-stream-requires-2
+on-stream-requires-2 c κs = search needs
 
 enum-told-3 : tie.Need-enum-told-3
 enum-told-3 c = search needs
@@ -41,7 +41,7 @@ same-length-3 c = search needs
 returns : tie.Need-returns
 returns c =
     let a = c .before .before .before .before .before .before .before .before .before .before .before .before .before .before .before .before .args in
-    let w = c .before .before .before .before .before .before .on-data in
+    let w = c .before .before .before .before .before .before .on-stream in
     as-type (a .c) (a .table .now) (a .links .now) (a .pool .now) (a .header) (a .body .now) (a .time) (w .result) (w .last .1 .0) (w .last .1 .1 .0) (w .last .1 .1 .1 .0) tag.Data (a .header .tag) (c .before .before .before .before .before .before .before .before .before .before .enum-told .given .1) (w .ensures)
 
 same-length-4 : tie.Need-same-length-4
@@ -56,7 +56,7 @@ same-length-6 c = search needs
 returns-2 : tie.Need-returns-2
 returns-2 c =
     let a = c .before .before .before .before .before .before .before .before .before .before .before .before .before .before .before .before .args in
-    let w = c .before .before .before .before .before .before .on-window-update in
+    let w = c .before .before .before .before .before .before .on-stream2 in
     as-type (a .c) (a .table .now) (a .links .now) (a .pool .now) (a .header) (a .body .now) (a .time) (w .result) (w .last .1 .0) (w .last .1 .1 .0) (w .last .1 .1 .1 .0) tag.WindowUpdate (a .header .tag) (c .before .before .before .before .before .before .before .before .before .before .enum-told2 .given .1) (w .ensures)
 
 same-length-7 : tie.Need-same-length-7
@@ -84,9 +84,9 @@ on-type-spec =
     tie.close
     (tie.spec
     enum-told
-    on-data-requires
+    on-stream-requires
     enum-told-2
-    on-window-update-requires
+    on-stream-requires-2
     enum-told-3
     on-ping-requires
     enum-told-4

@@ -63,7 +63,7 @@ loop-again : tie.Need-loop-again Inv-loop μ-loop
 loop-again c =
     let k = c .before .before .before .before .before .before .before .before .before .before .before .before .before .before .before .turn in
     let v = c .before .before .before .before .before .before .before .before .before .before .before .before .before .before .before .before .before .before .before .before .before .before .before .before .loop .inv in (
-      (k .ensures .0, omega (arith, k .ensures .1, k .kept .1 .1 .1 .1 .1 .1 .0), omega (arith, k .ensures .2, k .kept .1 .1 .1 .1 .1 .1 .1 .0)),
+      (k .ensures .0 .0, omega (arith, k .ensures .0 .1, k .kept .1 .1 .1 .1 .1 .1 .0), omega (arith, k .ensures .0 .2, k .kept .1 .1 .1 .1 .1 .1 .1 .0)),
       k .kept .1 .0 ∙ v .1,
       k .kept .1 .1 .0 ∙ v .2,
       k .kept .1 .1 .1 .0 ∙ v .3,

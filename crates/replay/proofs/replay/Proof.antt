@@ -70,23 +70,11 @@ start-requires c κs =
     let h : k .result ≤ length (k .last .0) = omega (arith, k .ensures, k .kept .0) in
     (omega (arith, f .1, length-take-le (k .result) (k .last .0) h), h)
 
-enum-told : tie.Need-enum-told
-enum-told c = search needs
+enum-known-begun-2 : tie.Need-enum-known-begun-2
+enum-known-begun-2 c = search needs
 
-refuse-requires : tie.Need-refuse-requires
-refuse-requires c κs = search needs
-
-enum-told-2 : tie.Need-enum-told-2
-enum-told-2 c = search needs
-
-cut-short-requires : tie.Need-cut-short-requires
-cut-short-requires c κs = search needs
-
-enum-told-3 : tie.Need-enum-told-3
-enum-told-3 c = search needs
-
-unreadable-requires : tie.Need-unreadable-requires
-unreadable-requires c κs = search needs
+reject-requires : tie.Need-reject-requires
+reject-requires c κs = search needs
 
 same-length : tie.Need-same-length
 same-length c = search needs
@@ -121,24 +109,6 @@ same-length-9 c = search needs
 returns-2 : tie.Need-returns-2
 returns-2 c = search needs
 
-same-length-10 : tie.Need-same-length-10
-same-length-10 c = search needs
-
-same-length-11 : tie.Need-same-length-11
-same-length-11 c = search needs
-
-returns-3 : tie.Need-returns-3
-returns-3 c = search needs
-
-same-length-12 : tie.Need-same-length-12
-same-length-12 c = search needs
-
-same-length-13 : tie.Need-same-length-13
-same-length-13 c = search needs
-
-returns-4 : tie.Need-returns-4
-returns-4 c = search needs
-
 pub replay-spec : {M : Type 1} → statement M
 replay-spec =
     tie.close
@@ -155,12 +125,8 @@ replay-spec =
     slice-relend-prefix-start-3
     slice-aggregate-start-3
     start-requires
-    enum-told
-    refuse-requires
-    enum-told-2
-    cut-short-requires
-    enum-told-3
-    unreadable-requires
+    enum-known-begun-2
+    reject-requires
     same-length
     same-length-2
     same-length-3
@@ -171,10 +137,4 @@ replay-spec =
     returns
     same-length-8
     same-length-9
-    returns-2
-    same-length-10
-    same-length-11
-    returns-3
-    same-length-12
-    same-length-13
-    returns-4)
+    returns-2)

@@ -16,14 +16,14 @@ play-requires c κs = (c .before .before .before .before .before .before .before
 enum-told : tie.Need-enum-told
 enum-told c = search needs
 
-refuse-requires : tie.Need-refuse-requires
-refuse-requires c κs = search needs
+only-line-requires : tie.Need-only-line-requires
+only-line-requires c κs = search needs
 
 enum-told-2 : tie.Need-enum-told-2
 enum-told-2 c = search needs
 
-refuse-requires-2 : tie.Need-refuse-requires-2
-refuse-requires-2 c κs = search needs
+only-line-requires-2 : tie.Need-only-line-requires-2
+only-line-requires-2 c κs = search needs
 
 same-length : tie.Need-same-length
 same-length c = search needs
@@ -87,9 +87,9 @@ start-spec =
     enum-known-created
     play-requires
     enum-told
-    refuse-requires
+    only-line-requires
     enum-told-2
-    refuse-requires-2
+    only-line-requires-2
     same-length
     same-length-2
     same-length-3

@@ -1,8 +1,9 @@
--- `replay::turn` meets its contract: a run stops inside its input and its room. Assumes nothing.
-use mathlib.Core.Path.{sym, _∙_}
+-- `replay::turn` meets its contract: a run, which stops inside its input and its room, and what follows it. Assumes nothing.
+use mathlib.Core.Path.{sym, ap, _∙_}
 use borrow.Author.Needs.{needs}
 use native.Mathlib.Omega.{arith}
 use lib.Seq.{length-take-le}
+use Rattle.replay.specs.declared.State.{State}
 use Rattle.replay.proofs.turn.Statement.{statement}
 use Rattle.replay.proofs.turn.Tie as tie
 
@@ -53,7 +54,19 @@ same-length-7 : tie.Need-same-length-7
 same-length-7 c = c .before .before .before .before .go-on .kept .1 .1 .1 .0 ∙ c .before .before .before .before .before .before .before .before .before .before .before .before .before .before .before .before .before .before .before .before .run .kept .1 .1 .1 .1 .1 .1 .1 .0
 
 returns : tie.Need-returns
-returns c = search needs
+returns c =
+    let k = c .before .before .before .before .before .before .before .before .before .before .before .before .before .before .before .before .before .before .before .before .run in
+    let g = c .before .before .before .before .go-on .ensures in
+    let a = c .before .before .before .before .before .before .before .after-run .ensures in (
+      search needs,
+      record {
+        report = k .result;
+        written = _;
+        runs = rw (c .before .before .before .before .before .before .before .before .before .before .before .before .before .before .before .before .before .before .before .before .before .before .before .before .before .before .before .before .place-of .ensures) at (k .ensures .0);
+        connection = g .1 .0 ∙ ap (λ (x : State). x .connection) a;
+        applied = g .1 .1 ∙ ap (λ (x : State). x .applied) a;
+      },
+    )
 
 pub turn-spec : {M : Type 1} → statement M
 turn-spec =
