@@ -58,7 +58,8 @@ impl Second {
 
     fn original(&self, trace: &Trace) -> String {
         let bodies = matches!(self, Second::Model);
-        oracle_run(&trace.bytes(), &OracleOptions { wide: trace.wide, next_id: trace.next_id, bodies })
+        let options = OracleOptions { wide: trace.wide, next_id: trace.next_id, bodies, ..Default::default() };
+        oracle_run(&trace.bytes(), &options)
     }
 }
 
