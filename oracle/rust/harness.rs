@@ -103,6 +103,8 @@ struct Run {
     unread: u64,
     growth: Arc<Mutex<usize>>,
     log: Log,
+    /// The connection's.
+    waker: Waker,
     serial: u64,
 }
 
@@ -120,7 +122,9 @@ impl Run {
         }
         let growth = active.accumulated_max_stream_windows.clone();
         let held = (0..s.slots).map(|_| None).collect();
-        Run { connection, pipe, held, pool: s.pool, unread: 0, growth, log: Log::default(), serial: 0 }
+        let log = Log::default();
+        let waker = Waker::from(Arc::new(Recorder { who: Who::Connection, log: log.clone() }));
+        Run { connection, pipe, held, pool: s.pool, unread: 0, growth, log, waker, serial: 0 }
     }
 
     fn active(&self) -> Option<&Active<Pipe>> {
@@ -136,7 +140,7 @@ impl Run {
 
     /// Poll the connection until it neither gives anything nor asks for more.
     fn settle(&mut self) -> Result<Settled, Stop> {
-        let waker = self.waker(Who::Connection);
+        let waker = self.waker.clone();
         let mut cx = Context::from_waker(&waker);
         let mut new = Vec::new();
         let over = loop {
@@ -331,10 +335,10 @@ pub fn run(bytes: &[u8], options: &Options) -> String {
 
 /// Writes the lines of a trace. The last is `end` or `bad` as `replay` has it, or says `oracle-unsupported` or
 /// `oracle-surprise`, the number of the event, and why.
-pub fn run_into(bytes: &[u8], options: &Options, out: &mut impl io::Write) -> io::Result<()> {
+pub fn run_into(trace: impl io::BufRead, options: &Options, out: &mut impl io::Write) -> io::Result<()> {
     let mut written = Ok(());
     let mut applied = 0;
-    let mut input = Input { rest: bytes, bound: if options.wide { 1 << 24 } else { 16_384 } };
+    let mut input = Input { rest: trace, bound: if options.wide { 1 << 24 } else { 16_384 } };
     let result = (|| {
         let settings = Settings::read(&mut input, options)?;
         let mut run = Run::new(&settings, options.next_id);

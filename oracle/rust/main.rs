@@ -1,6 +1,6 @@
 //! `oracle [--bodies] [--wide] [--quiet] [--next-id N] < TRACE`: the lines that the original gives; quiet, the last alone.
 
-use std::io::{Read, Write};
+use std::io::{BufReader, BufWriter, Write};
 
 fn main() {
     let mut options = yamux::OracleOptions::default();
@@ -14,9 +14,8 @@ fn main() {
             _ => panic!("oracle: {a}: no such option"),
         }
     }
-    let mut trace = Vec::new();
-    std::io::stdin().read_to_end(&mut trace).expect("standard input");
-    let mut out = std::io::BufWriter::with_capacity(1 << 16, std::io::stdout().lock());
-    yamux::oracle_run_into(&trace, &options, &mut out).expect("standard output");
+    let trace = BufReader::with_capacity(1 << 16, std::io::stdin());
+    let mut out = BufWriter::with_capacity(1 << 16, std::io::stdout());
+    yamux::oracle_run_into(trace, &options, &mut out).expect("standard output");
     out.flush().expect("standard output");
 }
