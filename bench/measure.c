@@ -52,8 +52,12 @@ static double run(const char *trace, char **command)
     }
     int status;
     struct rusage usage;
-    if (child < 0 || wait4(child, &status, 0, &usage) != child || status != 0)
+    if (child < 0 || wait4(child, &status, 0, &usage) != child)
         fail("measure");
+    if (status != 0) {
+        fprintf(stderr, "measure: %s did not end well\n", command[0]);
+        exit(1);
+    }
     return of_timeval(usage.ru_utime) + of_timeval(usage.ru_stime);
 }
 
