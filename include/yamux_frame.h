@@ -1,4 +1,5 @@
-/* Yamux headers for C: the two proved functions of the crate `frame`. Link libframe.a.
+/* Yamux headers for C: the two proved functions of the crate `frame`. Link target/staticlib/libframe.a, which
+ * `rt staticlib frame` writes; examples/header.c is a program that does.
  *
  * Every argument is judged: no value makes a call fail in any way but by its reply.
  * What the caller owes is what C cannot say: a buffer is `len` readable (decode) or writable (encode) bytes, the

@@ -18,6 +18,7 @@ use parking_lot::Mutex;
 use pipe::{Log, Pipe, Recorder, Who};
 use std::any::Any;
 use std::fmt::Write as _;
+use std::io;
 use std::panic::{catch_unwind, AssertUnwindSafe};
 use std::sync::Arc;
 use std::task::{Context, Poll, Waker};
@@ -36,6 +37,8 @@ pub struct Options {
     pub next_id: Option<u32>,
     /// A line `body HEX` after that of each written frame.
     pub bodies: bool,
+    /// The last line alone.
+    pub quiet: bool,
 }
 
 /// Why the run stops before its end.
@@ -96,8 +99,12 @@ struct Run {
     pipe: Pipe,
     held: Vec<Option<Held>>,
     pool: u64,
+    /// At least the unread bytes.
+    unread: u64,
     growth: Arc<Mutex<usize>>,
     log: Log,
+    /// The connection's.
+    waker: Waker,
     serial: u64,
 }
 
@@ -115,7 +122,9 @@ impl Run {
         }
         let growth = active.accumulated_max_stream_windows.clone();
         let held = (0..s.slots).map(|_| None).collect();
-        Run { connection, pipe, held, pool: s.pool, growth, log: Log::default(), serial: 0 }
+        let log = Log::default();
+        let waker = Waker::from(Arc::new(Recorder { who: Who::Connection, log: log.clone() }));
+        Run { connection, pipe, held, pool: s.pool, unread: 0, growth, log, waker, serial: 0 }
     }
 
     fn active(&self) -> Option<&Active<Pipe>> {
@@ -131,7 +140,7 @@ impl Run {
 
     /// Poll the connection until it neither gives anything nor asks for more.
     fn settle(&mut self) -> Result<Settled, Stop> {
-        let waker = self.waker(Who::Connection);
+        let waker = self.waker.clone();
         let mut cx = Context::from_waker(&waker);
         let mut new = Vec::new();
         let over = loop {
@@ -236,8 +245,8 @@ impl Run {
         Ok(Answer { reply, ..Default::default() })
     }
 
-    /// Run one event and write its line, without the number.
-    fn event(&mut self, time: u64, event: Event, bodies: bool) -> Result<String, Stop> {
+    /// Run one event and write its line, without the number; none where the run is quiet.
+    fn event(&mut self, time: u64, event: Event, options: &Options) -> Result<String, Stop> {
         if time > TOP_TIME {
             return unsupported("time above 2^62-1, reply 10");
         }
@@ -248,6 +257,9 @@ impl Run {
         let mut a = self.call(event)?;
         let log = std::mem::take(&mut *self.log.lock());
         let wakes = if was_active && self.active().is_none() { "a".into() } else { self.wakes(log, is_frame, &mut a)? };
+        if options.quiet {
+            return Ok(String::new());
+        }
         let mut line = format!(
             "{} {} {} {} {} {}",
             a.reply,
@@ -257,7 +269,7 @@ impl Run {
             or_dash(Some(wakes)),
             or_dash(Some(hex(&a.bytes))),
         );
-        if let (true, Some(body)) = (bodies, a.body) {
+        if let (true, Some(body)) = (options.bodies, a.body) {
             let _ = write!(line, "\nbody {}", or_dash(Some(hex(&body))));
         }
         Ok(line)
@@ -300,8 +312,9 @@ fn or_dash(s: Option<String>) -> String {
 }
 
 fn hex(bytes: &[u8]) -> String {
-    let digit = |d: u8| char::from_digit(d.into(), 16).expect("below sixteen");
-    bytes.iter().flat_map(|b| [digit(b >> 4), digit(b & 15)]).collect()
+    let digit = |d: u8| b"0123456789abcdef"[usize::from(d)];
+    let digits = bytes.iter().flat_map(|b| [digit(b >> 4), digit(b & 15)]).collect();
+    String::from_utf8(digits).expect("digits")
 }
 
 fn panic_text(p: &(dyn Any + Send)) -> String {
@@ -313,18 +326,25 @@ fn panic_text(p: &(dyn Any + Send)) -> String {
     s.replace('\n', " ")
 }
 
-/// The lines of a trace. The last is `end` or `bad` as `replay` has it, or says `oracle-unsupported` or
-/// `oracle-surprise`, the number of the event, and why.
+/// The lines of a trace, as one text.
 pub fn run(bytes: &[u8], options: &Options) -> String {
-    let mut out = String::new();
+    let mut out = Vec::new();
+    run_into(bytes, options, &mut out).expect("memory");
+    String::from_utf8(out).expect("lines")
+}
+
+/// Writes the lines of a trace. The last is `end` or `bad` as `replay` has it, or says `oracle-unsupported` or
+/// `oracle-surprise`, the number of the event, and why.
+pub fn run_into(trace: impl io::BufRead, options: &Options, out: &mut impl io::Write) -> io::Result<()> {
+    let mut written = Ok(());
     let mut applied = 0;
-    let mut input = Input { rest: bytes, bound: if options.wide { 1 << 24 } else { 16_384 } };
+    let mut input = Input { rest: trace, bound: if options.wide { 1 << 24 } else { 16_384 } };
     let result = (|| {
         let settings = Settings::read(&mut input, options)?;
         let mut run = Run::new(&settings, options.next_id);
         while applied < ALLOWANCE {
             let Some((time, event)) = input.event()? else { break };
-            let line = match catch_unwind(AssertUnwindSafe(|| run.event(time, event, options.bodies))) {
+            let line = match catch_unwind(AssertUnwindSafe(|| run.event(time, event, options))) {
                 Ok(line) => line?,
                 Err(p) => {
                     std::mem::forget(run); // after a panic its drops could panic again
@@ -332,16 +352,18 @@ pub fn run(bytes: &[u8], options: &Options) -> String {
                 }
             };
             applied += 1;
-            let _ = writeln!(out, "{applied} {line}");
+            if !options.quiet && written.is_ok() {
+                written = writeln!(out, "{applied} {line}");
+            }
         }
         let growth = *run.growth.lock();
         Ok(growth)
     })();
-    let _ = match result {
+    written?;
+    match result {
         Ok(growth) => writeln!(out, "end {applied} {growth}"),
         Err(Stop::Bad) => writeln!(out, "bad {applied}"),
         Err(Stop::Unsupported(s)) => writeln!(out, "oracle-unsupported {} {s}", applied + 1),
         Err(Stop::Surprise(s)) => writeln!(out, "oracle-surprise {} {s}", applied + 1),
-    };
-    out
+    }
 }

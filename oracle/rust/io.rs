@@ -99,8 +99,7 @@ impl<T: AsyncRead + AsyncWrite + Unpin> Sink<Frame<()>> for Io<T> {
     }
 }
 
-/// Possible errors while decoding a message frame.
-#[non_exhaustive]
+/// Why the pipe gave no frame; the name is the one that the original frame.rs exports.
 #[derive(Debug)]
 pub enum FrameDecodeError {
     Io(io::Error),
@@ -110,8 +109,8 @@ pub enum FrameDecodeError {
 impl fmt::Display for FrameDecodeError {
     fn fmt(&self, f: &mut fmt::Formatter) -> fmt::Result {
         match self {
-            FrameDecodeError::Io(e) => write!(f, "i/o error: {e}"),
-            FrameDecodeError::Header(e) => write!(f, "decode error: {e}"),
+            FrameDecodeError::Io(e) => write!(f, "the pipe: {e}"),
+            FrameDecodeError::Header(e) => write!(f, "the header: {e}"),
         }
     }
 }

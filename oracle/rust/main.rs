@@ -1,6 +1,6 @@
-//! `oracle [--bodies] [--wide] [--next-id N] < TRACE`: the lines that the original gives.
+//! `oracle [--bodies] [--wide] [--quiet] [--next-id N] < TRACE`: the lines that the original gives; quiet, the last alone.
 
-use std::io::{Read, Write};
+use std::io::{BufReader, BufWriter, Write};
 
 fn main() {
     let mut options = yamux::OracleOptions::default();
@@ -9,12 +9,13 @@ fn main() {
         match a.as_str() {
             "--bodies" => options.bodies = true,
             "--wide" => options.wide = true,
+            "--quiet" => options.quiet = true,
             "--next-id" => options.next_id = args.next().and_then(|n| n.parse().ok()),
             _ => panic!("oracle: {a}: no such option"),
         }
     }
-    let mut trace = Vec::new();
-    std::io::stdin().read_to_end(&mut trace).expect("standard input");
-    let lines = yamux::oracle_run(&trace, &options);
-    std::io::stdout().write_all(lines.as_bytes()).expect("standard output");
+    let trace = BufReader::with_capacity(1 << 16, std::io::stdin());
+    let mut out = BufWriter::with_capacity(1 << 16, std::io::stdout());
+    yamux::oracle_run_into(trace, &options, &mut out).expect("standard output");
+    out.flush().expect("standard output");
 }

@@ -22,7 +22,7 @@ mod shrink;
 use gen::Trace;
 use std::collections::BTreeMap;
 use std::fs::File;
-use std::process::{Command, Stdio};
+use std::process::Command;
 use yamux::{oracle_run, OracleOptions};
 
 /// What the original's lines are compared with.
@@ -46,10 +46,11 @@ impl Second {
         let path = std::env::temp_dir().join(format!("oracle-trace-{}", std::process::id()));
         std::fs::write(&path, bytes).expect("trace file");
         let input = File::open(&path).expect("trace file");
-        let output = Command::new(program).stdin(input).stderr(Stdio::inherit()).output();
+        let output = Command::new(program).stdin(input).output();
         let output = output.unwrap_or_else(|e| panic!("{program}: {e}"));
         let _ = std::fs::remove_file(&path);
         let mut lines = String::from_utf8_lossy(&output.stdout).into_owned();
+        lines += &String::from_utf8_lossy(&output.stderr); // a message is a difference
         if !output.status.success() {
             lines += &format!("{program}: {}\n", output.status);
         }
@@ -58,7 +59,8 @@ impl Second {
 
     fn original(&self, trace: &Trace) -> String {
         let bodies = matches!(self, Second::Model);
-        oracle_run(&trace.bytes(), &OracleOptions { wide: trace.wide, next_id: trace.next_id, bodies })
+        let options = OracleOptions { wide: trace.wide, next_id: trace.next_id, bodies, ..Default::default() };
+        oracle_run(&trace.bytes(), &options)
     }
 }
 

@@ -1,4 +1,5 @@
-/* The C side of `frame` against a second encoder, written here from the Yamux specification's table of fields. */
+/* The C side of `frame` against a second encoder, written here from what document 01 gives of the Yamux specification's
+ * header ("Twelve bytes, big-endian: .."); the specification's own text was not at hand (docs/DECISIONS.md, 17). */
 #include "yamux_frame.h"
 
 #include <stdio.h>
@@ -27,7 +28,7 @@ static void expect(int holds, const char *what, const struct fields *f)
     exit(1);
 }
 
-/* The specification's picture, most significant bit first: version 8, type 8, flags 16, stream id 32, length 32. */
+/* Bit by bit, most significant first: version 8, type 8, flags 16, stream id 32, length 32. */
 static void put_bits(uint8_t *out, unsigned *at, uint32_t value, unsigned width)
 {
     while (width-- > 0) {
@@ -37,7 +38,7 @@ static void put_bits(uint8_t *out, unsigned *at, uint32_t value, unsigned width)
     }
 }
 
-static void by_the_specification(const struct fields *f, uint8_t out[12])
+static void by_the_bits(const struct fields *f, uint8_t out[12])
 {
     unsigned at = 0;
     memset(out, 0, 12);
@@ -63,7 +64,7 @@ static void both_ways(const struct fields *f)
 {
     uint8_t want[12], buf[14], kept[14];
     struct fields got = {0x5a, 0x5a5a, 0x5a5a5a5au, 0xa5a5a5a5u};
-    by_the_specification(f, want);
+    by_the_bits(f, want);
     memset(buf, GUARD, sizeof buf);
     expect(yamux_encode(f->type, f->flags, f->stream_id, f->length, buf + 1, 12) == YAMUX_DONE, "encode's reply", f);
     expect(memcmp(buf + 1, want, 12) == 0, "encode's bytes", f);
@@ -157,8 +158,8 @@ int main(void)
             uint8_t back[12];
             struct fields g;
             expect(decode(bytes, 12, &g) == YAMUX_DONE, "random bytes are accepted", &f);
-            by_the_specification(&g, back);
-            expect(memcmp(back, bytes, 12) == 0, "random bytes as the specification writes them", &g);
+            by_the_bits(&g, back);
+            expect(memcmp(back, bytes, 12) == 0, "random bytes, written again bit by bit", &g);
             expect(yamux_encode(g.type, g.flags, g.stream_id, g.length, back, 12) == YAMUX_DONE, "encode after decode", &g);
             expect(memcmp(back, bytes, 12) == 0, "encode after decode", &g);
         }

@@ -40,6 +40,7 @@ impl Run {
     }
 
     fn frame(&mut self, bytes: Vec<u8>) -> Result<Answer, Stop> {
+        self.unread += bytes.len() as u64;
         self.pipe.0.borrow_mut().inbox.extend(bytes);
         let mut s = self.settle()?;
         let sent = Self::at_most_one(s.sent)?;
@@ -58,8 +59,11 @@ impl Run {
             a.value = Some(stream.id().val().into());
             a.slot = Some(self.hold(stream)?);
         }
-        let unread: usize = self.held.iter().flatten().map(|h| h.stream.shared().buffer.len()).sum();
-        if unread as u64 > self.pool {
+        // Counted only where it may be too much.
+        if self.unread > self.pool {
+            self.unread = self.held.iter().flatten().map(|h| h.stream.shared().buffer.len() as u64).sum();
+        }
+        if self.unread > self.pool {
             return unsupported("body longer than the room, reply 8");
         }
         if let Some(f) = sent {

@@ -4,7 +4,7 @@ use futures::io::{AsyncRead, AsyncWrite};
 use parking_lot::Mutex;
 use std::cell::RefCell;
 use std::collections::VecDeque;
-use std::io;
+use std::io::{self, Read};
 use std::pin::Pin;
 use std::rc::Rc;
 use std::sync::Arc;
@@ -24,14 +24,10 @@ pub(super) struct PipeInner {
 impl AsyncRead for Pipe {
     fn poll_read(self: Pin<&mut Self>, _: &mut Context<'_>, buf: &mut [u8]) -> Poll<io::Result<usize>> {
         let mut p = self.0.borrow_mut();
-        let n = buf.len().min(p.inbox.len());
-        if n == 0 && !p.eof {
+        if p.inbox.is_empty() && !p.eof {
             return Poll::Pending; // the harness polls again, no waker needed
         }
-        for (to, from) in buf.iter_mut().zip(p.inbox.drain(..n)) {
-            *to = from;
-        }
-        Poll::Ready(Ok(n))
+        Poll::Ready(p.inbox.read(buf))
     }
 }
 

@@ -4,6 +4,7 @@ use super::{unsupported, Options, Stop, CREDIT, TOP_TIME};
 use crate::connection::Mode;
 use crate::frame::header::HEADER_SIZE;
 use crate::Config;
+use std::io::{BufRead, ErrorKind};
 
 pub(super) enum Event {
     Tick,
@@ -16,25 +17,30 @@ pub(super) enum Event {
     Gone,
 }
 
-pub(super) struct Input<'a> {
-    pub(super) rest: &'a [u8],
+pub(super) struct Input<R> {
+    pub(super) rest: R,
     /// Bound on counts and bodies.
     pub(super) bound: u64,
 }
 
-impl Input<'_> {
+impl<R: BufRead> Input<R> {
+    fn fill(&mut self, to: &mut [u8]) -> Result<(), Stop> {
+        match self.rest.read_exact(to) {
+            Err(e) if e.kind() == ErrorKind::UnexpectedEof => Err(Stop::Bad),
+            done => Ok(done.expect("the trace")),
+        }
+    }
+
     fn bytes(&mut self, n: usize) -> Result<Vec<u8>, Stop> {
-        let Some((head, tail)) = self.rest.split_at_checked(n) else {
-            return Err(Stop::Bad);
-        };
-        self.rest = tail;
-        Ok(head.to_vec())
+        let mut bytes = vec![0; n];
+        self.fill(&mut bytes)?;
+        Ok(bytes)
     }
 
     fn byte(&mut self) -> Result<u8, Stop> {
-        let (first, tail) = self.rest.split_first().ok_or(Stop::Bad)?;
-        self.rest = tail;
-        Ok(*first)
+        let mut byte = [0];
+        self.fill(&mut byte)?;
+        Ok(byte[0])
     }
 
     fn number(&mut self) -> Result<u64, Stop> {
@@ -63,7 +69,7 @@ impl Input<'_> {
 
     /// The next event, `None` at the end of the trace.
     pub(super) fn event(&mut self) -> Result<Option<(u64, Event)>, Stop> {
-        if self.rest.is_empty() {
+        if self.rest.fill_buf().expect("the trace").is_empty() {
             return Ok(None);
         }
         let kind = self.number()?;
@@ -113,7 +119,7 @@ pub(super) struct Settings {
 }
 
 impl Settings {
-    pub(super) fn read(input: &mut Input, options: &Options) -> Result<Self, Stop> {
+    pub(super) fn read(input: &mut Input<impl BufRead>, options: &Options) -> Result<Self, Stop> {
         let mut n = [0; 10];
         for x in &mut n {
             *x = input.number()?;
