@@ -36,7 +36,7 @@ use Rattle.demands.proofs.Invariant.{Inv}
 use Rattle.demands.proofs.Acks.{Acks, Located, after-ack, unmoved, acknowledges}
 use Rattle.demands.proofs.Steps.{reached}
 use Rattle.demands.proofs.Answers.{timely, alive}
-use Rattle.demands.proofs.Stale.{found-at}
+use Rattle.demands.proofs.Stale.{listed-live, found-at}
 
 -- ---- the way to the rules
 
@@ -58,9 +58,9 @@ acked-as c v live h place l P f =
     (λ b w. f _ (unmoved c v live (h .«stream_id») b w place l))
     (f _ (acknowledges c v live (h .«stream_id») place l))
 
-not-ended : (b : Bool) → (b ≡ true → ⊥) → b ≡ false
-not-ended true n = absurd (n refl)
-not-ended false n = refl
+-- the room is what it was before the step
+enough : (id : StreamId) (place : Place) (a : Acked) (body : List ℕ) → Acks a id place → length body ≤ room (a .before) → ltb (room (a .conn)) (length body) ≡ false
+enough id place a body k p = le-ltb (room (a .conn)) (length body) (rw (k .config, k .unread) p)
 
 -- ---- a stream in the table
 
@@ -68,7 +68,7 @@ not-ended false n = refl
 abbrev pub Does : (Entry → Outcome → Entry → Type 0) → Conn → ℕ → Result → Type 0
 Does P c i r = P (entry (c .slots) i) (r .outcome) (entry (r .after .slots) i)
 
--- what a frame for it does is what its rules R do after any ACK step, if N is needed for it
+-- a frame for it does what its rules R do after any ACK step; N is what they need of the state before
 pub known :
     (c : Conn) → Reach c → (now i : ℕ) (head body : List ℕ) (t : Tag) (f : FrameFor t c i head body) → now ≤ lastTime → entry (c .slots) i .listed ≡ true →
     (P : Entry → Outcome → Entry → Type 0) (N : Conn → Type 0) (R : Acked → Result) →
@@ -79,7 +79,7 @@ known c m now i head body t f time l P N R e does n =
     let v = reached m in
     let h = f .header in
     let here = found-at c v (h .«stream_id») i l (sym (f .names)) in
-    let live : c .ended ≡ false = not-ended (c .ended) (λ x. true-not-false l (v .quiet x i)) in
+    let live = listed-live c v i l in
     let located : Located (c .slots) (h .«stream_id») (at i) = subst (Located (c .slots) (h .«stream_id»)) here (first-says _ (c .slots) vacant) in
     let done = framed c now head body h t (f .decodes) (f .isOf) (f .long) time live in
     subst (Does P c i) (sym (done ∙ ap (λ (q : Place). frameRules t c h body q now) here ∙ e))
@@ -93,8 +93,7 @@ pub stores :
     Does P (a .before) i (takeAt i a h body (Taken s w))
 unfolding takeAt
 stores h body i a k p P s w x =
-    let spare : ltb (room (a .conn)) (length body) ≡ false = le-ltb (room (a .conn)) (length body) (rw (k .config, k .unread) p) in
-    rw spare (subst (P (entry (a .before .slots) i) _) (sym (getD-set-same (a .conn .slots) i _ vacant (k .located .0))) x)
+    rw (enough (h .«stream_id») (at i) a body k p) (subst (P (entry (a .before .slots) i) _) (sym (getD-set-same (a .conn .slots) i _ vacant (k .located .0))) x)
 
 -- ---- a new stream
 
@@ -126,8 +125,7 @@ module _ (id : StreamId) (body : List ℕ) (a : Acked) (k : Acks a id nowhere) (
       let z : a .conn .config .slots ≡ a .before .config .slots = rw (k .config) in
       absurd (some-free (a .conn .slots) (omega (arith, y .left, k .helds, k .inv .size, z)) f)
   made-at s (at i) f l =
-      let spare : ltb (room (a .conn)) (length body) ≡ false = le-ltb (room (a .conn)) (length body) (rw (k .config, k .unread) (y .fits)) in
-      rw spare ((refl, refl), (i, l, refl, getD-set-same (a .conn .slots) i _ vacant (f .0)))
+      rw (enough id nowhere a body k (y .fits)) ((refl, refl), (i, l, refl, getD-set-same (a .conn .slots) i _ vacant (f .0)))
 
   pub makes : (s : Stream) → Makes (a .before) s body (make a s body)
   unfolding make

@@ -39,6 +39,14 @@ use Rattle.demands.proofs.Acks.{is-listed, is-id}
 use Rattle.demands.proofs.Steps.{sound, reached}
 use Rattle.demands.proofs.Answers.{timely, holds}
 
+-- with a stream in the table the connection goes on
+pub listed-live : (c : Conn) → Inv c → (i : ℕ) → entry (c .slots) i .listed ≡ true → c .ended ≡ false
+listed-live c v i l = go (c .ended) refl
+  where
+    go : (b : Bool) → c .ended ≡ b → b ≡ false
+    go true e = true-not-false l (v .quiet e i)
+    go false e = refl
+
 -- ---- where a number is found
 
 module _ (c : Conn) (v : Inv c) (id : StreamId) where
@@ -108,13 +116,6 @@ module _ (c : Conn) (old new : ℕ) (s : Stale c old new) where
   apart : new ≢ old
   apart e = true-not-false (s .listed) (ap (λ (i : ℕ). entry (c .slots) i .listed) e ∙ s .gone)
 
-  live : c .ended ≡ false
-  live = go (c .ended) refl
-    where
-      go : (b : Bool) → c .ended ≡ b → b ≡ false
-      go true e = true-not-false (s .listed) (v .quiet e new)
-      go false e = refl
-
   unreadable : canRead (older .stream .state) ≡ false
   unreadable = ap canRead closed
 
@@ -134,7 +135,7 @@ module _ (c : Conn) (old new : ℕ) (s : Stale c old new) where
       (ends-done (eqb n 0) (canRead (older .stream .state)) _ _ unreadable))
 
   read-goes-on : cond (c .ended) (cond (c .config .«read_after_close») false true) false ≡ false
-  read-goes-on = ap (λ (b : Bool). cond b (cond (c .config .«read_after_close») false true) false) live
+  read-goes-on = ap (λ (b : Bool). cond b (cond (c .config .«read_after_close») false true) false) (listed-live c v new (s .listed))
 
   pub stale-reads : (now asked : ℕ) → now ≤ lastTime →
       let n = min asked (length (older .bytes)) in

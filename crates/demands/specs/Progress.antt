@@ -202,7 +202,8 @@ CloseIsSent =
     × (entry (r .after .slots) i .stream .state ≡ finSent (s .state))
     × (entry (r .after .slots) i .stream .flag ≡ cond (owesAck (s .flag)) owed.None (s .flag))
 
--- "if it was Open, RST is given; RecvClosed gives FIN": a drop of a handle whose stream is in the table takes it out, and the slot is free.
+-- "if it was Open, RST is given; RecvClosed gives FIN": a drop of a handle whose stream is in the table takes it out, and the slot
+-- is free.
 abbrev pub DropIsSent : Type 0
 DropIsSent =
     (c : Conn) → Reach c → (now i : ℕ) → now ≤ lastTime → entry (c .slots) i .listed ≡ true →
