@@ -1,29 +1,31 @@
 -- What lives is valid and reached, so every theorem of `demands` holds of it. Assumes nothing.
 use mathlib.Core.Path.{_≡_, refl, sym, ap, _∙_}
 use mathlib.Core.Bool.{Bool, true, false}
-use mathlib.Core.List.{List}
-use Prim.Native.Nat.{ℕ}
+use mathlib.Core.List.{List, [], _∷_}
+use Prim.Native.Nat.{ℕ, _-_}
 use native.Mathlib.Omega.{arith}
 use lib.ListN.{length}
 use Rattle.rules.specs.Settings.{checked}
 use Rattle.rules.specs.State.{Conn}
-use Rattle.rules.specs.Step.{Call, step, frame}
+use Rattle.rules.specs.Step.{Call, step, run, frame}
 use Rattle.rules.specs.declared.Settings.{Settings}
 use Rattle.rules.specs.declared.Checked.{Checked}
 use Rattle.rules.specs.declared.Checked.the-variants as settings
 use Rattle.connection.specs.Abstract.{absOf, Valid}
-use Rattle.connection.specs.Promises.{Promised, Follows}
+use Rattle.connection.specs.Promises.{Follows}
 use Rattle.connection.specs.declared.Connection.{Connection}
-use Rattle.connection.specs.declared.Done.{Done}
 use Rattle.opening.specs.Start.{Creates, number, sized}
 use Rattle.opening.specs.declared.Created.{Created}
 use Rattle.opening.specs.declared.Created.the-variants.{Made, Wrong, Size}
+use Rattle.trace.specs.Runs.{only, reads}
+use Rattle.trace.specs.Turns.{runsFrom, RanAs}
+use Rattle.trace.proofs.Steps.{steps}
 use Rattle.demands.specs.Demands.{Reach}
 use Rattle.demands.specs.Demands as reach
 use Rattle.demands.specs.History.{Heard, Story}
 use Rattle.demands.specs.History as story
 use Rattle.demands.proofs.Theorems.{growth-is-a-sum, growth-is-within, windows-are-within, unread-is-the-rest, room-for-m}
-use Rattle.carried.specs.Lives.{Lives, made, then, unsized, Growth, Unread, Room}
+use Rattle.carried.specs.Lives.{Lives, made, then, unsized, ran, unran, heardOver, Growth, Unread, Room}
 
 -- valid, and the rules' state has this history
 pub record Holds (c : Connection) (t l p : List ℕ) (h : ℕ → Heard) : Type 0 where
@@ -44,6 +46,11 @@ begins s t l p c t′ l′ p′ m (settings.Fine k) e = go (sized k (length t) (
     go true q = record { valid = m .made k e q .0; told = rw (m .made k e q .1) (story.new s e) }
     go false q = unmade c Size (m .sizes k e q .0) refl
 
+-- a history goes on over any calls
+goes-on : {c : Conn} {h : ℕ → Heard} → Story c h → (ks : List Call) → Story (run c ks .after) (heardOver c ks h)
+goes-on s [] = s
+goes-on s (k ∷ ks) = goes-on (story.then s k) ks
+
 pub lives : {c : Connection} {t l p : List ℕ} {h : ℕ → Heard} → Lives c t l p h → Holds c t l p h
 lives (made s m) = begins s _ _ _ _ _ _ _ m (checked s) refl
 lives (then {c = c} {t = t} {l = l} {p = p} before k d t′ l′ p′ promised) =
@@ -52,6 +59,14 @@ lives (then {c = c} {t = t} {l = l} {p = p} before k d t′ l′ p′ promised) 
 lives (unsized {c = c} before k d t′ l′ p′ promised) =
     let e : d ≡ _ = promised .wrong refl in
     let kept = promised .refuses (rw e refl) in
+    rw (kept .0, kept .1, kept .2, kept .3) (lives before)
+lives (ran {c = c} {t = t} {l = l} {p = p} before s o place allowance r t′ l′ p′ o′ runs) =
+    let f : RanAs (runsFrom c t l p s o place allowance) place o r t′ l′ p′ o′ = runs .steps refl (lives before .valid) in
+    let ks = reads (runsFrom c t l p s o place allowance .applied) s (place .at) in
+    let m = steps (allowance - place .applied) (absOf c t l p) s (place .at) (place .applied) (only (length o - place .put)) in
+    record { valid = f .valid; told = rw (f .after ∙ m .after) (goes-on (lives before .told) ks) }
+lives (unran before s o place allowance r t′ l′ p′ o′ runs) =
+    let kept = runs .wrong refl in
     rw (kept .0, kept .1, kept .2, kept .3) (lives before)
 
 story-reach : {c : Conn} {h : ℕ → Heard} → Story c h → Reach c

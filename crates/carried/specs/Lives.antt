@@ -1,12 +1,12 @@
--- A connection and its lent memory after any calls, and the third demand of them. Sentences are the demand's.
+-- A connection and its lent memory after any calls and runs, and the third demand of them. Sentences are the demand's.
 use mathlib.Core.Path.{_≡_}
 use mathlib.Core.Logic.{_≢_}
-use mathlib.Core.Bool.{Bool, true, false}
-use mathlib.Core.List.{List}
+use mathlib.Core.Bool.{true, false}
+use mathlib.Core.List.{List, [], _∷_}
 use Prim.Native.Nat.{ℕ, _+_, _-_, _*_, _≤_}
 use lib.ListN.{length, drop}
 use Rattle.frame.specs.Header.{initialWindow}
-use Rattle.rules.specs.State.{Entry, entry, one}
+use Rattle.rules.specs.State.{Entry, Conn, entry, one}
 use Rattle.rules.specs.Step.{Call, step, frame}
 use Rattle.rules.specs.declared.Settings.{Settings}
 use Rattle.rules.specs.declared.Reply.the-variants as reply
@@ -17,11 +17,21 @@ use Rattle.connection.specs.declared.Connection.{Connection}
 use Rattle.connection.specs.declared.Done.{Done}
 use Rattle.opening.specs.Start.{Creates}
 use Rattle.opening.specs.declared.Created.the-variants.{Made}
+use Rattle.trace.specs.Runs.{reads}
+use Rattle.trace.specs.Turns.{runsFrom, Runs}
+use Rattle.trace.specs.declared.Place.{Place}
+use Rattle.trace.specs.declared.Report.{Report}
 use Rattle.demands.specs.Demands.{heldCount, heldGrowth, wouldOpen}
 use Rattle.demands.specs.History.{Heard, unheard, noted, event}
 
+-- what the handles heard once these calls are made as well
+abbrev pub heardOver : Conn → List Call → (ℕ → Heard) → ℕ → Heard
+heardOver c [] h = h
+heardOver c (k ∷ ks) h = heardOver (step c k .after) ks (noted (event c k (step c k .outcome)) h)
+
 -- "After any calls on a new connection": table, links and pool as `new` makes them, then as calls leave them that keep the
--- promise that every call is proved to keep, what is lent having the right size or not; and the bytes that each handle heard.
+-- promise that every call is proved to keep, and as runs over a trace leave them that keep theirs, what is lent having the right
+-- size or not; and the bytes that each handle heard, of a run's calls as well.
 pub data Lives : Connection → List ℕ → List ℕ → List ℕ → (ℕ → Heard) → Type 0 where
   made : {c : Connection} {t l p t′ l′ p′ : List ℕ} (s : Settings) → Creates s t l p (Made c) t′ l′ p′ → Lives c t′ l′ p′ (λ i. unheard)
   then : {c : Connection} {t l p : List ℕ} {h : ℕ → Heard} → Lives c t l p h
@@ -30,6 +40,12 @@ pub data Lives : Connection → List ℕ → List ℕ → List ℕ → (ℕ → 
   unsized : {c : Connection} {t l p : List ℕ} {h : ℕ → Heard} → Lives c t l p h
       → (k : Call) (d : Done) (t′ l′ p′ : List ℕ) → Promised false c t l p k d t′ l′ p′
       → Lives (d .connection) t′ l′ p′ h
+  ran : {c : Connection} {t l p : List ℕ} {h : ℕ → Heard} → Lives c t l p h
+      → (s o : List ℕ) (place : Place) (allowance : ℕ) (r : Report) (t′ l′ p′ o′ : List ℕ) → Runs true c t l p s o place allowance r t′ l′ p′ o′
+      → Lives (r .connection) t′ l′ p′ (heardOver (absOf c t l p) (reads (runsFrom c t l p s o place allowance .applied) s (place .at)) h)
+  unran : {c : Connection} {t l p : List ℕ} {h : ℕ → Heard} → Lives c t l p h
+      → (s o : List ℕ) (place : Place) (allowance : ℕ) (r : Report) (t′ l′ p′ o′ : List ℕ) → Runs false c t l p s o place allowance r t′ l′ p′ o′
+      → Lives (r .connection) t′ l′ p′ h
 
 -- what slot i stands for
 abbrev pub slotAt : Connection → List ℕ → List ℕ → List ℕ → ℕ → Entry

@@ -14,7 +14,9 @@ pub mod Answers
 pub mod Bytes
 pub mod Theorems
 pub mod Stale
+pub mod Framed
 pub mod Progress
+pub mod Pings
 pub mod Marks
 pub mod OwnMarks
 pub mod Waits

@@ -1,199 +1,137 @@
 -- What the rules allow is done. Assumes nothing.
 use mathlib.Core.Path.{_≡_, refl, sym, ap, _∙_, subst}
-use mathlib.Core.Bool.{Bool, true, false, cond, not}
-use mathlib.Core.List.{List, [], _++_}
+use mathlib.Core.Logic.{_≢_}
+use mathlib.Core.Bool.{Bool, true, false, cond}
+use mathlib.Core.List.{List, [], _++_, append-nil}
 use Prim.Native.Nat.{ℕ, _+_, _≤_, _<_}
 use native.Mathlib.Omega.{arith}
-use lib.ListN.{length, set}
+use lib.ListN.{length}
 use lib.Seq.{getD-set-same}
-use lib.Dec.{eqb, ltb, leb}
-use borrow.Author.Tests.{leb-true, ltb-true, not-true, le-leb, lt-leb, le-ltb, eq-eqb, ne-eqb}
-use Rattle.frame.specs.Header.{initialWindow, dataHeader, contains, syn, rst, fin}
+use lib.Dec.{eqb}
+use borrow.Author.Tests.{leb-true, le-leb, lt-leb, le-ltb, ne-eqb}
+use Rattle.frame.specs.Header.{initialWindow, dataHeader, contains, syn, rst, fin, protocolError, internalError}
 use Rattle.frame.specs.declared.header.Header.{Header}
 use Rattle.frame.specs.declared.header.StreamId.{StreamId}
-use Rattle.frame.specs.declared.header.Tag.{Tag}
 use Rattle.frame.specs.declared.header.Tag.the-variants as tag
+use Rattle.flow_control.specs.Windows.{top}
+use Rattle.flow_control.specs.declared.FlowController.{FlowController}
+use Rattle.stream.specs.States.{change}
 use Rattle.stream.specs.Streams as stream
+use Rattle.stream.specs.declared.Stream.{Stream}
+use Rattle.stream.specs.declared.State.{State}
+use Rattle.stream.specs.declared.State.the-variants.{Open, SendClosed, RecvClosed, Closed}
 use Rattle.stream.specs.declared.Flag.{Flag}
 use Rattle.stream.specs.declared.Flag.the-variants as owed
-use Rattle.rules.specs.declared.Reply.the-variants as reply
+use Rattle.rules.specs.declared.Which.the-variants as which
+use Rattle.rules.specs.Replies.{Outcome}
 use Rattle.rules.specs.Lists.{Place, at, nowhere}
-use Rattle.rules.specs.State.{Entry, Conn, vacant, entry, isFree, find, lowestFree, room, listedCount, isRemote}
+use Rattle.rules.specs.State.{Entry, Conn, vacant, entry, isFree, lowestFree, room}
 use Rattle.rules.specs.Ending.{Result}
-use Rattle.rules.specs.Frames.{Acked, synData, synRules, make, makeAt, isKnown, ackStep, takenEntry, newEntry, takeAt, knownData, dataRules, frameRules, bodyLength, onHeader}
-use Rattle.rules.specs.Calls.{openAt, open-rules, writeWith, writeRules}
-use Rattle.rules.specs.Step.{onDecoded, step}
+use Rattle.rules.specs.Frames.{Acked, whose, openedBy, synData, synUpdate, knownData, knownUpdate, dataRules, updateRules, frameRules}
+use Rattle.rules.specs.Calls.{openAt, open-rules, writeWith, writeRules, closeRules}
+use Rattle.rules.specs.Step.{step}
 use Rattle.rules.proofs.Lists.{Says, first-says}
-use Rattle.demands.specs.Demands.{heldCount, opens}
-use Rattle.demands.specs.Theorems.{Gave}
-use Rattle.demands.specs.Progress.{InLowest, Sends, DataIsTaken, SynIsOpened, OpenIsGiven, WriteIsSent}
-use Rattle.demands.proofs.Lists.{split, both, true-not-false, sum-full}
-use Rattle.demands.proofs.Invariant.{Inv, in-range}
-use Rattle.demands.proofs.Acks.{Acks, Located, after-ack, unmoved, acknowledges}
+use Rattle.demands.specs.Demands.{heldCount}
+use Rattle.demands.specs.Progress.{Takes, Credits, Sends, finSent, DataIsTaken, CreditIsAdded, SynIsOpened, UpdateIsOpened, OpenIsGiven, WriteIsSent, CloseIsSent, DropIsSent}
+use Rattle.demands.proofs.Lists.{split, true-not-false}
+use Rattle.demands.proofs.Invariant.{in-range}
+use Rattle.demands.proofs.Acks.{Acks}
 use Rattle.demands.proofs.Steps.{reached}
 use Rattle.demands.proofs.Answers.{timely, holds, alive}
-use Rattle.demands.proofs.Stale.{found-at}
+use Rattle.demands.proofs.Stale.{drops-own}
+use Rattle.demands.proofs.Framed.{framed, Does, known, stores, Makes, Ready, some-free, makes, admitted, opened}
 
--- a body as long as its Data header says
-right-length : (h : Header) (body : List ℕ) → h .tag ≡ tag.Data → h .length .0 ≡ length body → eqb (length body) (bodyLength (h .tag) (h .length .0)) ≡ true
-right-length h body e n = rw e (eq-eqb (length body) (h .length .0) (sym n))
+-- ---- a frame for a stream in the table
 
--- ---- Data for a stream in the table
+module _ (h : Header) (i : ℕ) (a : Acked) (k : Acks a (h .«stream_id») (at i)) (s : contains (h .flags) syn ≡ false) (r : contains (h .flags) rst ≡ false) (now : ℕ) where
+  abbrev now-there : Stream
+  now-there = entry (a .conn .slots) i .stream
 
--- done, the body behind the unread bytes of c, the window less the body
-abbrev Takes : Conn → ℕ → List ℕ → Result → Type 0
-Takes c i body r =
-    (r .outcome .reply ≡ reply.Done)
-    × (entry (r .after .slots) i .bytes ≡ entry (c .slots) i .bytes ++ body)
-    × (entry (r .after .slots) i .stream .flow .«receive_window» + length body ≡ entry (c .slots) i .stream .flow .«receive_window»)
-
-module _ (h : Header) (body : List ℕ) (now i : ℕ) (a : Acked) (k : Acks a (h .«stream_id») (at i)) (s : contains (h .flags) syn ≡ false) (r : contains (h .flags) rst ≡ false)
-    (w : length body ≤ entry (a .before .slots) i .stream .flow .«receive_window») (p : length body ≤ room (a .before)) where
-  abbrev old : Entry
-  old = entry (a .conn .slots) i
-
-  open-window : length body ≤ old .stream .flow .«receive_window»
-  open-window = rw (k .flows i) w
-
-  enough-room : ltb (room (a .conn)) (length body) ≡ false
-  enough-room = le-ltb (room (a .conn)) (length body) (rw (k .config, k .unread) p)
-
-  abbrev taken : Entry
-  taken = takenEntry old (stream.dataTaken (old .stream) (length body) (contains (h .flags) fin)) (contains (h .flags) fin) body
-
-  at-slot : entry (set (a .conn .slots) i taken) i ≡ taken
-  at-slot = getD-set-same (a .conn .slots) i taken vacant (k .located .0)
-
-  takes-at : Takes (a .before) i body (takeAt i a h body (stream.onData (old .stream) (length body) (contains (h .flags) fin)))
-  unfolding takeAt
-  takes-at =
-      rw (le-leb _ _ open-window, enough-room) (
-        refl,
-        ap (λ (e : Entry). e .bytes) at-slot ∙ ap (λ (l : List ℕ). l ++ body) (k .bytes i),
-        ap (λ (e : Entry). e .stream .flow .«receive_window» + length body) at-slot ∙ omega (arith, open-window) ∙ ap (λ f. f .«receive_window») (k .flows i),
-      )
-
-  takes-data : Takes (a .before) i body (dataRules a h body (at i) now)
+  takes-data : (body : List ℕ) → length body ≤ entry (a .before .slots) i .stream .flow .«receive_window» → length body ≤ room (a .before) →
+      Does (Takes body) (a .before) i (dataRules a h body (at i) now)
   unfolding dataRules knownData
-  takes-data = rw (r, s) takes-at
+  takes-data body w p =
+      let o : length body ≤ now-there .flow .«receive_window» = rw (k .flows i) w in
+      rw (r, s, le-leb _ _ o) (stores h body i a k p (Takes body) _ _ (
+        refl,
+        ap (λ (l : List ℕ). l ++ body) (k .bytes i),
+        omega (arith, o) ∙ ap (λ (f : FlowController). f .«receive_window») (k .flows i),
+      ))
 
-module _ (c : Conn) (v : Inv c) (live : c .ended ≡ false) (h : Header) (body : List ℕ) (now i : ℕ) (s : contains (h .flags) syn ≡ false) (r : contains (h .flags) rst ≡ false)
-    (w : length body ≤ entry (c .slots) i .stream .flow .«receive_window») (p : length body ≤ room c) (l : Located (c .slots) (h .«stream_id») (at i)) where
-  takes-acked : Takes c i body (dataRules (ackStep c h (at i)) h body (at i) now)
-  takes-acked =
-      after-ack c v live h (at i) l (λ a. Takes c i body (dataRules a h body (at i) now))
-      (λ b o. takes-data h body now i _ (unmoved c v live (h .«stream_id») b o (at i) l) s r w p)
-      (takes-data h body now i _ (acknowledges c v live (h .«stream_id») (at i) l) s r w p)
+  -- a writer that is woken has its slot told
+  told : (reader writer : Bool) → writer ≡ true → whose (stream.wakes reader writer) i ≡ which.At (record { 0 = i })
+  told true writer e = refl
+  told false writer e = rw e
 
-  takes-tag : (t : Tag) → t ≡ tag.Data → Takes c i body (frameRules t c h body (at i) now)
-  unfolding frameRules
-  takes-tag t e = rw e takes-acked
-
-  takes-header : h .tag ≡ tag.Data → h .length .0 ≡ length body → find (c .slots) (h .«stream_id») ≡ at i → Takes c i body (onHeader c h body now)
-  unfolding onHeader
-  takes-header e n f =
-      split (Takes c i body) (eqb (length body) (bodyLength (h .tag) (h .length .0)))
-      (λ b. subst (λ q. Takes c i body (frameRules (h .tag) c h body q now)) (sym f) (takes-tag (h .tag) e))
-      (λ b. true-not-false (right-length h body e n) b)
+  takes-update : entry (a .before .slots) i .stream .flow .«send_window» + h .length .0 ≤ top →
+      Does (Credits i (h .length .0)) (a .before) i (updateRules a h (at i) now)
+  unfolding updateRules knownUpdate
+  takes-update w =
+      let o : now-there .flow .«send_window» + h .length .0 ≤ top = rw (k .flows i) w in
+      rw (r, s, le-leb _ _ o) (stores h [] i a k (omega arith) (Credits i (h .length .0)) _ _ (
+        refl,
+        ap (λ (f : FlowController). f .«send_window» + h .length .0) (k .flows i),
+        append-nil (entry (a .conn .slots) i .bytes) ∙ k .bytes i,
+        k .waits i .1,
+        (λ e. told (cond (contains (h .flags) fin) (now-there .reader) false) (now-there .writer) (k .waits i .1 ∙ e)),
+        refl,
+      ))
 
 pub data-is-taken : DataIsTaken
-unfolding step onDecoded
-data-is-taken c m now i head body d t l w p =
-    let v = reached m in
-    let h = d .header in
-    let f = found-at c v (h .«stream_id») i l (sym (d .names)) in
-    let live : c .ended ≡ false = not-ended (c .ended) (λ e. true-not-false l (v .quiet e i)) in
-    let located : Located (c .slots) (h .«stream_id») (at i) = subst (Located (c .slots) (h .«stream_id»)) f (first-says _ (c .slots) vacant) in
-    subst (λ q. Takes c i body (onDecoded q c body now)) (sym (d .decodes))
-    (subst (Takes c i body) (sym (timely c now _ t ∙ alive c _ live))
-    (takes-header c v live h body now i (d .noSyn) (d .noRst) w p located (d .isData) (d .long) f))
-  where
-    not-ended : (b : Bool) → (b ≡ true → ⊥) → b ≡ false
-    not-ended true n = absurd (n refl)
-    not-ended false n = refl
+unfolding frameRules
+data-is-taken c m now i head body f t l w p =
+    known c m now i head body tag.Data f t l (Takes body)
+    (λ d. (length body ≤ entry (d .slots) i .stream .flow .«receive_window») × (length body ≤ room d))
+    (λ a. dataRules a (f .header) body (at i) now) refl
+    (λ a k n. takes-data (f .header) i a k (f .noSyn) (f .noRst) now body (n .0) (n .1))
+    (w, p)
 
--- ---- Data that makes a stream
+pub credit-is-added : CreditIsAdded
+unfolding frameRules
+credit-is-added c m now i head f t l w =
+    known c m now i head [] tag.WindowUpdate f t l (Credits i (f .header .length .0))
+    (λ d. entry (d .slots) i .stream .flow .«send_window» + f .header .length .0 ≤ top)
+    (λ a. updateRules a (f .header) (at i) now) refl
+    (λ a k n. takes-update (f .header) i a k (f .noSyn) (f .noRst) now n)
+    w
 
-abbrev Makes : Conn → Header → List ℕ → ℕ → Result → Type 0
-Makes c h body now r =
-    Gave r (h .«stream_id» .0)
-    × InLowest c r (newEntry (stream.dataTaken (stream.newInbound (h .«stream_id») initialWindow now) (length body) (contains (h .flags) fin)) body)
+-- ---- a frame that makes a stream
 
-not-free : (b : Bool) → cond b false true ≡ false → b ≡ true
-not-free true e = refl
-not-free false e = true-not-false refl e
+-- the stream that Data with the body opens
+abbrev openedWith : Header → List ℕ → ℕ → Stream
+openedWith h body now = stream.dataTaken (stream.newInbound (h .«stream_id») initialWindow now) (length body) (contains (h .flags) fin)
 
--- with a slot left not all are held
-some-free : (es : List Entry) → heldCount es < length es → Says isFree es vacant nowhere → ⊥
-some-free es s f =
-    let full = sum-full (λ (e : Entry). e .held) es vacant (λ j l. not-free (entry es j .held) (f j l)) in
-    omega (arith, s, full)
+module _ (h : Header) (now : ℕ) (a : Acked) (k : Acks a (h .«stream_id») nowhere) (s : contains (h .flags) syn ≡ true) (r : contains (h .flags) rst ≡ false) where
+  makes-data : (body : List ℕ) → Ready (a .before) (h .«stream_id») body → length body ≤ initialWindow → Makes (a .before) (openedWith h body now) body (dataRules a h body nowhere now)
+  unfolding dataRules synData
+  makes-data body y small =
+      rw (r, s) (admitted (h .«stream_id») body a k y (Makes (a .before) (openedWith h body now) body) internalError
+      (rw (le-ltb initialWindow (length body) small) (makes (h .«stream_id») body a k y (openedWith h body now))))
 
-module _ (h : Header) (body : List ℕ) (now : ℕ) (a : Acked) (k : Acks a (h .«stream_id») nowhere) (s : contains (h .flags) syn ≡ true) (r : contains (h .flags) rst ≡ false)
-    (remote : isRemote (a .before .config .mode) (h .«stream_id») ≡ true) (few : listedCount (a .before .slots) < a .before .config .«max_num_streams») (small : length body ≤ initialWindow)
-    (p : length body ≤ room (a .before)) (left : heldCount (a .before .slots) < a .before .config .slots) where
-  made-at : (q : Place) → Says isFree (a .conn .slots) vacant q → lowestFree (a .before .slots) ≡ q →
-      Makes (a .before) h body now (makeAt q a (stream.dataTaken (stream.newInbound (h .«stream_id») initialWindow now) (length body) (contains (h .flags) fin)) body)
-  unfolding makeAt
-  made-at nowhere f l =
-      let z : a .conn .config .slots ≡ a .before .config .slots = rw (k .config) in
-      absurd (some-free (a .conn .slots) (omega (arith, left, k .helds, k .inv .size, z)) f)
-  made-at (at i) f l =
-      let spare : ltb (room (a .conn)) (length body) ≡ false = le-ltb (room (a .conn)) (length body) (rw (k .config, k .unread) p) in
-      rw spare ((refl, refl), (i, l, refl, getD-set-same (a .conn .slots) i _ vacant (f .0)))
-
-  makes-data : Makes (a .before) h body now (dataRules a h body nowhere now)
-  unfolding dataRules synData synRules make
-  makes-data =
-      let there : isRemote (a .conn .config .mode) (h .«stream_id») ≡ true = rw (k .config) remote in
-      let fewer : leb (a .conn .config .«max_num_streams») (listedCount (a .conn .slots)) ≡ false = lt-leb (a .conn .config .«max_num_streams») (listedCount (a .conn .slots)) (rw (k .config, k .listeds) few) in
-      let fits : ltb initialWindow (length body) ≡ false = le-ltb initialWindow (length body) small in
-      rw (r, s, there, fewer, fits) (made-at (lowestFree (a .conn .slots)) (first-says isFree (a .conn .slots) vacant) (ap lowestFree (sym (k .unknown refl))))
-
--- a place that no stream is known at
-unknown : (p : Place) → not (isKnown p) ≡ true → p ≡ nowhere
-unknown (at i) e = true-not-false e refl
-unknown nowhere e = refl
-
-module _ (c : Conn) (v : Inv c) (live : c .ended ≡ false) (h : Header) (body : List ℕ) (now : ℕ) (o : opens c h body ≡ true) (p : length body ≤ room c) (left : heldCount (c .slots) < c .config .slots) where
-  makes-acked : Makes c h body now (dataRules (ackStep c h (find (c .slots) (h .«stream_id»))) h body (find (c .slots) (h .«stream_id»)) now)
-  makes-acked =
-      let s = both _ _ o in
-      let r = both _ _ (s .1) in
-      let m = both _ _ (r .1) in
-      let n = both _ _ (m .1) in
-      let f = both _ _ (n .1) in
-      let place = unknown (find (c .slots) (h .«stream_id»)) (n .0) in
-      let l : Located (c .slots) (h .«stream_id») nowhere = subst (Located (c .slots) (h .«stream_id»)) place (first-says _ (c .slots) vacant) in
-      let reset = not-true (contains (h .flags) rst) (r .0) in
-      let few = ltb-true (listedCount (c .slots)) (c .config .«max_num_streams») (f .0) in
-      let small = leb-true (length body) initialWindow (f .1) in
-      subst (λ q. Makes c h body now (dataRules (ackStep c h q) h body q now)) (sym place)
-      (after-ack c v live h nowhere l (λ a. Makes c h body now (dataRules a h body nowhere now))
-      (λ b w. makes-data h body now _ (unmoved c v live (h .«stream_id») b w nowhere l) (s .0) reset (m .0) few small p left)
-      (makes-data h body now _ (acknowledges c v live (h .«stream_id») nowhere l) (s .0) reset (m .0) few small p left))
-
-  makes-tag : (t : Tag) → t ≡ tag.Data → Makes c h body now (frameRules t c h body (find (c .slots) (h .«stream_id»)) now)
-  unfolding frameRules
-  makes-tag t e = rw e makes-acked
-
-  makes-header : h .tag ≡ tag.Data → h .length .0 ≡ length body → Makes c h body now (onHeader c h body now)
-  unfolding onHeader
-  makes-header e n =
-      split (Makes c h body now) (eqb (length body) (bodyLength (h .tag) (h .length .0)))
-      (λ b. makes-tag (h .tag) e)
-      (λ b. true-not-false (right-length h body e n) b)
+  makes-update : Ready (a .before) (h .«stream_id») [] → h .length .0 + initialWindow ≤ top → Makes (a .before) (openedBy h now) [] (updateRules a h nowhere now)
+  unfolding updateRules synUpdate
+  makes-update y small =
+      rw (r, s) (admitted (h .«stream_id») [] a k y (Makes (a .before) (openedBy h now) []) protocolError
+      (rw (le-ltb top (h .length .0 + initialWindow) small) (makes (h .«stream_id») [] a k y (openedBy h now))))
 
 pub syn-is-opened : SynIsOpened
-unfolding step onDecoded
+unfolding frameRules
 syn-is-opened c m now head body h d e n t live o p left =
-    subst (λ q. Makes c h body now (onDecoded q c body now)) (sym d)
-    (subst (Makes c h body now) (sym (timely c now _ t ∙ alive c _ live)) (makes-header c (reached m) live h body now o p left e n))
+    subst (Makes c (openedWith h body now) body) (sym (framed c now head body h tag.Data d e (sym n) t live))
+    (opened c (reached m) live h body _ o p left (openedWith h body now) (λ a q. dataRules a h body q now)
+    (λ s r last a k y. makes-data h now a k s r body y (leb-true (length body) initialWindow last)))
+
+pub update-is-opened : UpdateIsOpened
+unfolding frameRules
+update-is-opened c m now head h d e t live o left =
+    subst (Makes c (openedBy h now) []) (sym (framed c now head [] h tag.WindowUpdate d e refl t live))
+    (opened c (reached m) live h [] _ o (omega arith) left (openedBy h now) (λ a q. updateRules a h q now)
+    (λ s r last a k y. makes-update h now a k s r y (leb-true (h .length .0 + initialWindow) top last)))
 
 -- ---- an open
 
 abbrev Given : Conn → ℕ → Result → Type 0
-Given c now r = Gave r (c .nextId) × InLowest c r (newEntry (stream.newOutbound (record { 0 = c .nextId }) now) [])
+Given c now = Makes c (stream.newOutbound (record { 0 = c .nextId }) now) []
 
 given-at : (c : Conn) (now : ℕ) → heldCount (c .slots) < length (c .slots) → (p : Place) → Says isFree (c .slots) vacant p → lowestFree (c .slots) ≡ p → Given c now (openAt p c now)
 unfolding openAt
@@ -236,3 +174,40 @@ write-is-sent c now i given t live h w s =
     (split (Sends c i given n) (c .ended)
     (λ q. true-not-false q live)
     (λ q. rw (w, z) (sends c i given n h (omega arith))))
+
+-- ---- a close
+
+close-takes : (q : State) (s : Stream) → q ≢ Closed → stream.closeIn q s ≡ stream.closeTaken s
+close-takes (Open a) s n = refl
+close-takes SendClosed s n = refl
+close-takes RecvClosed s n = refl
+close-takes Closed s n = absurd (n refl)
+
+fin-changes : (q : State) → change q SendClosed ≡ finSent q
+fin-changes (Open a) = refl
+fin-changes SendClosed = refl
+fin-changes RecvClosed = refl
+fin-changes Closed = refl
+
+pub close-is-sent : CloseIsSent
+unfolding step closeRules
+close-is-sent c now i t h n =
+    let s = entry (c .slots) i .stream in
+    let x = getD-set-same (c .slots) i _ vacant (in-range (c .slots) i h) in
+    rw (timely c now _ t, holds c i _ h, close-takes (s .state) s n) (
+      refl,
+      ap (λ (y : Entry). y .stream .state) x ∙ fin-changes (s .state),
+      ap (λ (y : Entry). y .stream .flag) x,
+    )
+
+-- ---- a drop
+
+pub drop-is-sent : DropIsSent
+drop-is-sent c m now i t l =
+    let s = entry (c .slots) i .stream in
+    let d = drops-own c (reached m) now i t l in
+    let said = ap (λ (o : Outcome). o .header) (d .0) in (
+      d,
+      (λ a e. said ∙ ap (λ (q : State). stream.farewell q (s .id)) e),
+      (λ e. said ∙ ap (λ (q : State). stream.farewell q (s .id)) e),
+    )

@@ -32,12 +32,20 @@ use Rattle.rules.specs.Calls.{growthOf, onSlot, readEntry, readRest, readWith, 
 use Rattle.rules.specs.Step.{step}
 use Rattle.rules.specs.Step as rules
 use Rattle.rules.proofs.Lists.{Says, first-says}
-use Rattle.demands.specs.Handles.{Stale, StaleRead, StaleWrite, StaleClose, StaleDrop, StaleDropThenNew, NewDrop, aboutDecoded, OthersStay, FramesPassStale}
+use Rattle.demands.specs.Handles.{Stale, Drops, StaleRead, StaleWrite, StaleClose, StaleDrop, StaleDropThenNew, NewDrop, aboutDecoded, OthersStay, FramesPassStale}
 use Rattle.demands.proofs.Lists.{split, true-not-false, at-set}
 use Rattle.demands.proofs.Invariant.{Inv, in-range}
 use Rattle.demands.proofs.Acks.{is-listed, is-id}
 use Rattle.demands.proofs.Steps.{sound, reached}
 use Rattle.demands.proofs.Answers.{timely, holds}
+
+-- with a stream in the table the connection goes on
+pub listed-live : (c : Conn) → Inv c → (i : ℕ) → entry (c .slots) i .listed ≡ true → c .ended ≡ false
+listed-live c v i l = go (c .ended) refl
+  where
+    go : (b : Bool) → c .ended ≡ b → b ≡ false
+    go true e = true-not-false l (v .quiet e i)
+    go false e = refl
 
 -- ---- where a number is found
 
@@ -71,6 +79,22 @@ pub drop-is : (c : Conn) (now i : ℕ) (p : Place) → now ≤ lastTime → entr
 unfolding step dropRules
 drop-is c now i p t h f = timely c now _ t ∙ holds c i _ h ∙ ap (λ (q : Place). dropAt q (withGrowth c (c .growth - growthOf (entry (c .slots) i))) i) f
 
+-- the slot's own stream is the one that its number names
+pub drops-own : (c : Conn) → Inv c → (now i : ℕ) → now ≤ lastTime → entry (c .slots) i .listed ≡ true → Drops c i (step c (rules.drop now i))
+unfolding dropAt
+drops-own c v now i t l =
+    let e = entry (c .slots) i in
+    let x = removedEntry e in
+    let h = v .good i .holds l in
+    let r = in-range (c .slots) i h in
+    rw (drop-is c now i (at i) t h (found-at c v (e .stream .id) i l refl)) (
+      refl,
+      refl,
+      refl,
+      getD-set-same (set (c .slots) i x) i vacant vacant (rw (length-set (c .slots) i x) r),
+      (λ j n. getD-set-other (set (c .slots) i x) i j vacant vacant n ∙ getD-set-other (c .slots) i j x vacant n),
+    )
+
 -- ---- the old handle
 
 module _ (c : Conn) (old new : ℕ) (s : Stale c old new) where
@@ -92,13 +116,6 @@ module _ (c : Conn) (old new : ℕ) (s : Stale c old new) where
   apart : new ≢ old
   apart e = true-not-false (s .listed) (ap (λ (i : ℕ). entry (c .slots) i .listed) e ∙ s .gone)
 
-  live : c .ended ≡ false
-  live = go (c .ended) refl
-    where
-      go : (b : Bool) → c .ended ≡ b → b ≡ false
-      go true e = true-not-false (s .listed) (v .quiet e new)
-      go false e = refl
-
   unreadable : canRead (older .stream .state) ≡ false
   unreadable = ap canRead closed
 
@@ -118,7 +135,7 @@ module _ (c : Conn) (old new : ℕ) (s : Stale c old new) where
       (ends-done (eqb n 0) (canRead (older .stream .state)) _ _ unreadable))
 
   read-goes-on : cond (c .ended) (cond (c .config .«read_after_close») false true) false ≡ false
-  read-goes-on = ap (λ (b : Bool). cond b (cond (c .config .«read_after_close») false true) false) live
+  read-goes-on = ap (λ (b : Bool). cond b (cond (c .config .«read_after_close») false true) false) (listed-live c v new (s .listed))
 
   pub stale-reads : (now asked : ℕ) → now ≤ lastTime →
       let n = min asked (length (older .bytes)) in
@@ -228,19 +245,7 @@ stale-drop-then-new c old new s now later t u =
     )
 
 pub new-drop : NewDrop
-unfolding dropAt
-new-drop c old new s now t =
-    let e = entry (c .slots) new in
-    let x = removedEntry e in
-    let h = new-held c old new s in
-    let l = in-range (c .slots) new h in
-    rw (drop-is c now new (at new) t h (found-at c (reached (s .reached)) (e .stream .id) new (s .listed) refl)) (
-      refl,
-      refl,
-      refl,
-      getD-set-same (set (c .slots) new x) new vacant vacant (rw (length-set (c .slots) new x) l),
-      (λ j n. getD-set-other (set (c .slots) new x) new j vacant vacant n ∙ getD-set-other (c .slots) new j x vacant n),
-    )
+new-drop c old new s now t = drops-own c (reached (s .reached)) now new t (s .listed)
 
 -- ---- other slots
 

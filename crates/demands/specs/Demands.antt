@@ -2,7 +2,7 @@
 use mathlib.Core.Path.{_≡_}
 use mathlib.Core.Bool.{Bool, false, cond, not}
 use mathlib.Core.List.{List}
-use Prim.Native.Nat.{ℕ}
+use Prim.Native.Nat.{ℕ, _+_}
 use lib.ListN.{length}
 use lib.Dec.{ltb, leb}
 use Rattle.frame.specs.Header.{contains, syn, rst, initialWindow}
@@ -12,6 +12,7 @@ use Rattle.frame.specs.declared.header.Tag.{Tag}
 use Rattle.frame.specs.declared.header.Tag.the-variants as tag
 use Rattle.frame.specs.declared.header.Decoded.{Decoded}
 use Rattle.frame.specs.declared.header.Decoded.the-variants as found
+use Rattle.flow_control.specs.Windows.{top}
 use Rattle.rules.specs.declared.Settings.{Settings}
 use Rattle.rules.specs.declared.Config.{Config}
 use Rattle.rules.specs.declared.Checked.the-variants.{Fine}
@@ -39,16 +40,23 @@ heldGrowth es = sum (λ e. cond (e .held) (growthOf e) 0) es
 abbrev pub and : Bool → Bool → Bool
 and a b = cond a b false
 
--- Whether the rules would make a stream of a Data frame that has the header and the body: SYN and no RST, the remote's parity,
--- an id that is not in the table, fewer than M streams in it, a body of at most 262,144.
-abbrev pub opens : Conn → Header → List ℕ → Bool
-opens c h body =
+-- Whether the rules would make a stream of a frame that has the header: SYN and no RST, the remote's parity, an id that is not in
+-- the table, fewer than M streams in it, and the last test.
+abbrev pub admits : Conn → Header → Bool → Bool
+admits c h last =
     and (contains (h .flags) syn)
     (and (not (contains (h .flags) rst))
     (and (isRemote (c .config .mode) (h .«stream_id»))
     (and (not (isKnown (find (c .slots) (h .«stream_id»))))
-    (and (ltb (listedCount (c .slots)) (c .config .«max_num_streams»))
-    (leb (length body) initialWindow)))))
+    (and (ltb (listedCount (c .slots)) (c .config .«max_num_streams»)) last))))
+
+-- of a Data frame that has the body: at most 262,144 of it
+abbrev pub opens : Conn → Header → List ℕ → Bool
+opens c h body = admits c h (leb (length body) initialWindow)
+
+-- of a WindowUpdate: a credit that with 262,144 is at most 2^32-1
+abbrev pub opensByCredit : Conn → Header → Bool
+opensByCredit c h = admits c h (leb (h .length .0 + initialWindow) top)
 
 abbrev pub opensAs : Tag → Conn → Header → List ℕ → Bool
 opensAs tag.Data c h body = opens c h body

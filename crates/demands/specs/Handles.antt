@@ -17,7 +17,7 @@ use Rattle.rules.specs.Replies.{Outcome}
 use Rattle.rules.specs.Settings.{lastTime}
 use Rattle.rules.specs.Lists.{at}
 use Rattle.rules.specs.State.{Entry, Conn, vacant, entry, withSlot, withSlots, withGrowth, find}
-use Rattle.rules.specs.Ending.{gives, refuse}
+use Rattle.rules.specs.Ending.{Result, gives, refuse}
 use Rattle.rules.specs.Calls.{growthOf, onSlot, readEntry, removedEntry, dropWakes}
 use Rattle.rules.specs.Step.{step}
 use Rattle.rules.specs.Step as rules
@@ -97,19 +97,20 @@ StaleDropThenNew =
     × (entry (r .after .slots) new ≡ vacant)
     × ((j : ℕ) → j ≢ old → j ≢ new → entry (r .after .slots) j ≡ entry (c .slots) j)
 
--- Drop on the newer handle while the old one is held: the newer stream alone goes, as if the old one were not there. Its RST or
--- FIN is given, its waits are woken, its slot is free, and the figure falls by its own growth. No other slot changes, the old
--- handle's among them.
-abbrev pub NewDrop : Type 0
-NewDrop =
-    (c : Conn) (old new : ℕ) → Stale c old new → (now : ℕ) → now ≤ lastTime →
-    let r = step c (rules.drop now new) in
-    let e = entry (c .slots) new in
-    (r .outcome ≡ removes new e)
+-- A drop that takes the slot's own stream out of the table: its RST or FIN is given, its waits are woken, its slot is free, and the
+-- figure falls by its own growth. No other slot changes.
+abbrev pub Drops : Conn → ℕ → Result → Type 0
+Drops c i r =
+    (r .outcome ≡ removes i (entry (c .slots) i))
     × OnlySlots c (r .after)
-    × (r .after .growth ≡ c .growth - growthOf e)
-    × (entry (r .after .slots) new ≡ vacant)
-    × ((j : ℕ) → j ≢ new → entry (r .after .slots) j ≡ entry (c .slots) j)
+    × (r .after .growth ≡ c .growth - growthOf (entry (c .slots) i))
+    × (entry (r .after .slots) i ≡ vacant)
+    × ((j : ℕ) → j ≢ i → entry (r .after .slots) j ≡ entry (c .slots) j)
+
+-- Drop on the newer handle while the old one is held: the newer stream alone goes, as if the old one were not there. No other slot
+-- changes, the old handle's among them.
+abbrev pub NewDrop : Type 0
+NewDrop = (c : Conn) (old new : ℕ) → Stale c old new → (now : ℕ) → now ≤ lastTime → Drops c new (step c (rules.drop now new))
 
 -- ---- the slot that a call is about
 

@@ -1,54 +1,88 @@
 -- "Demand 2's rules exclude a table that refuses everything, one fixed reply, a table that never changes, and one that handles the
 -- first frame and then feigns the rest": in every reached state that goes on, what the rules allow is done, and is seen afterwards.
 use mathlib.Core.Path.{_≡_}
-use mathlib.Core.Bool.{true, false}
+use mathlib.Core.Logic.{_≢_, _⊎_}
+use mathlib.Core.Bool.{Bool, true, false, cond}
 use mathlib.Core.List.{List, [], _++_}
 use Prim.Native.Nat.{ℕ, _+_, _≤_, _<_}
 use lib.ListN.{length, take}
-use Rattle.frame.specs.Header.{contains, syn, fin, rst, dataHeader, initialWindow}
+use Rattle.frame.specs.Header.{contains, syn, ack, fin, rst, sessionId, dataHeader, pingHeader, closeStream, withSyn, withAck, withFin, withRst, initialWindow}
 use Rattle.frame.specs.Wire.{decoded}
 use Rattle.frame.specs.declared.header.Header.{Header}
+use Rattle.frame.specs.declared.header.StreamId.{StreamId}
+use Rattle.frame.specs.declared.header.Tag.{Tag}
 use Rattle.frame.specs.declared.header.Tag.the-variants as tag
 use Rattle.frame.specs.declared.header.Decoded.the-variants as found
+use Rattle.rtt.specs.Pings.{elapsed, idAfter}
+use Rattle.rtt.specs.declared.RttState.the-variants.{Waiting, AwaitingPong}
+use Rattle.rtt.specs.declared.RoundTrip.the-variants.{Known}
 use Rattle.flow_control.specs.Windows.{top}
 use Rattle.stream.specs.States.{canWrite}
-use Rattle.stream.specs.Streams.{newInbound, newOutbound, dataTaken, addFlag, writeCount}
+use Rattle.stream.specs.Streams.{newInbound, newOutbound, dataTaken, addFlag, owesAck, writeCount}
+use Rattle.stream.specs.declared.State.{State}
+use Rattle.stream.specs.declared.State.the-variants.{Open, SendClosed, RecvClosed, Closed}
 use Rattle.stream.specs.declared.Flag.the-variants as owed
 use Rattle.stream.specs.declared.Sent.the-variants.{Frame}
 use Rattle.rules.specs.declared.Reply.the-variants as reply
 use Rattle.rules.specs.declared.Value.the-variants as value
 use Rattle.rules.specs.declared.Which.the-variants as which
-use Rattle.rules.specs.Replies.{noWakes}
+use Rattle.rules.specs.Replies.{Outcome, noWakes, bare}
 use Rattle.rules.specs.Lists.{at}
 use Rattle.rules.specs.Settings.{lastTime}
-use Rattle.rules.specs.State.{Entry, Conn, entry, lowestFree, listedCount, unacknowledged, room}
-use Rattle.rules.specs.Ending.{Result}
-use Rattle.rules.specs.Frames.{newEntry}
+use Rattle.rules.specs.State.{Entry, Conn, entry, withPings, lowestFree, listedCount, unacknowledged, room}
+use Rattle.rules.specs.Ending.{Result, gives}
+use Rattle.rules.specs.Frames.{newEntry, openedBy, bodyLength}
+use Rattle.rules.specs.Calls.{onSlot}
 use Rattle.rules.specs.Step.{step}
 use Rattle.rules.specs.Step as rules
-use Rattle.demands.specs.Demands.{Reach, heldCount, opens}
+use Rattle.demands.specs.Demands.{Reach, heldCount, opens, opensByCredit}
 use Rattle.demands.specs.Theorems.{Gave}
+use Rattle.demands.specs.Handles.{Drops}
 
--- Data without SYN and RST for the stream in slot i, as long as its header says
-pub record DataFor (c : Conn) (i : ℕ) (head body : List ℕ) : Type 0 where
+-- a frame of type t without SYN and RST for the stream in slot i, its body as long as the type and the header say
+pub record FrameFor (t : Tag) (c : Conn) (i : ℕ) (head body : List ℕ) : Type 0 where
   pub header : Header
   pub decodes : decoded head ≡ found.Header header
-  pub isData : header .tag ≡ tag.Data
+  pub isOf : header .tag ≡ t
   pub noSyn : contains (header .flags) syn ≡ false
   pub noRst : contains (header .flags) rst ≡ false
   pub names : header .«stream_id» ≡ entry (c .slots) i .stream .id
-  pub long : header .length .0 ≡ length body
+  pub long : length body ≡ bodyLength t (header .length .0)
+
+-- done, the body behind the unread bytes, the receive window less the body
+abbrev pub Takes : List ℕ → Entry → Outcome → Entry → Type 0
+Takes body old o new =
+    (o .reply ≡ reply.Done)
+    × (new .bytes ≡ old .bytes ++ body)
+    × (new .stream .flow .«receive_window» + length body ≡ old .stream .flow .«receive_window»)
 
 -- Data for a stream in the table, within its receive window and the room, is done: the body stands behind the unread bytes, and
 -- the window falls by it. This holds in every reached state, so after any frames, not only after the first.
 abbrev pub DataIsTaken : Type 0
 DataIsTaken =
-    (c : Conn) → Reach c → (now i : ℕ) (head body : List ℕ) → DataFor c i head body → now ≤ lastTime → entry (c .slots) i .listed ≡ true →
+    (c : Conn) → Reach c → (now i : ℕ) (head body : List ℕ) → FrameFor tag.Data c i head body → now ≤ lastTime → entry (c .slots) i .listed ≡ true →
     length body ≤ entry (c .slots) i .stream .flow .«receive_window» → length body ≤ room c →
     let r = step c (rules.frame now head body) in
-    (r .outcome .reply ≡ reply.Done)
-    × (entry (r .after .slots) i .bytes ≡ entry (c .slots) i .bytes ++ body)
-    × (entry (r .after .slots) i .stream .flow .«receive_window» + length body ≡ entry (c .slots) i .stream .flow .«receive_window»)
+    Takes body (entry (c .slots) i) (r .outcome) (entry (r .after .slots) i)
+
+-- "credit added, .. writer woken": done, the send window of slot i more by the credit, the unread bytes as they were; a writer that
+-- waited is told, with the slot, and waits no more.
+abbrev pub Credits : ℕ → ℕ → Entry → Outcome → Entry → Type 0
+Credits i credit old o new =
+    (o .reply ≡ reply.Done)
+    × (new .stream .flow .«send_window» ≡ old .stream .flow .«send_window» + credit)
+    × (new .bytes ≡ old .bytes)
+    × (o .wakes .writer ≡ old .stream .writer)
+    × (old .stream .writer ≡ true → o .slot ≡ which.At (record { 0 = i }))
+    × (new .stream .writer ≡ false)
+
+-- A WindowUpdate for a stream in the table, whose credit takes its send window to at most 2^32-1, is done and adds it.
+abbrev pub CreditIsAdded : Type 0
+CreditIsAdded =
+    (c : Conn) → Reach c → (now i : ℕ) (head : List ℕ) (f : FrameFor tag.WindowUpdate c i head []) → now ≤ lastTime → entry (c .slots) i .listed ≡ true →
+    entry (c .slots) i .stream .flow .«send_window» + f .header .length .0 ≤ top →
+    let r = step c (rules.frame now head []) in
+    Credits i (f .header .length .0) (entry (c .slots) i) (r .outcome) (entry (r .after .slots) i)
 
 -- "the lowest free one is taken": the lowest slot that was free before the call is the one told, and holds the entry after it.
 abbrev pub InLowest : Conn → Result → Entry → Type 0
@@ -64,6 +98,15 @@ SynIsOpened =
     let r = step c (rules.frame now head body) in
     Gave r (h .«stream_id» .0)
     × InLowest c r (newEntry (dataTaken (newInbound (h .«stream_id») initialWindow now) (length body) (contains (h .flags) fin)) body)
+
+-- A WindowUpdate that the rules would make a stream of is done where a slot is left: the answer has the id and the lowest free
+-- slot, and that slot holds the stream, its credit added to the send window, with no bytes.
+abbrev pub UpdateIsOpened : Type 0
+UpdateIsOpened =
+    (c : Conn) → Reach c → (now : ℕ) (head : List ℕ) (h : Header) → decoded head ≡ found.Header h → h .tag ≡ tag.WindowUpdate →
+    now ≤ lastTime → c .ended ≡ false → opensByCredit c h ≡ true → heldCount (c .slots) < c .config .slots →
+    let r = step c (rules.frame now head []) in
+    Gave r (h .«stream_id» .0) × InLowest c r (newEntry (openedBy h now) [])
 
 -- An open with fewer than M streams in the table, fewer than 256 unacknowledged, an id and a slot left gives the next id and the
 -- lowest free slot, which holds the new stream.
@@ -97,3 +140,75 @@ WriteIsSent =
     (c : Conn) (now i : ℕ) (given : List ℕ) → now ≤ lastTime → c .ended ≡ false → entry (c .slots) i .held ≡ true →
     canWrite (entry (c .slots) i .stream .state) ≡ true → 0 < entry (c .slots) i .stream .flow .«send_window» →
     Sends c i given (writeCount (entry (c .slots) i .stream) (length given) (c .config .split)) (step c (rules.write now i given))
+
+-- ---- pings
+
+-- done, with this value and header to send, no slot told and nobody woken
+abbrev pub pingAnswer : ℕ → Header → Outcome
+pingAnswer v h = record { reply = reply.Done; slot = which.None; value = value.Of v; header = Frame h; body = []; wakes = noWakes; bytes = [] }
+
+-- "id 0 or in the table"
+abbrev pub PingedAt : Conn → StreamId → Type 0
+PingedAt c id = (id ≡ sessionId) ⊎ ((i : ℕ) × (entry (c .slots) i .listed ≡ true) × (entry (c .slots) i .stream .id ≡ id))
+
+-- "Ping ACK, same value, stream 0": a Ping without ACK is answered so, and nothing changes.
+abbrev pub PingIsAnswered : Type 0
+PingIsAnswered =
+    (c : Conn) → Reach c → (now : ℕ) (head : List ℕ) (h : Header) → decoded head ≡ found.Header h → h .tag ≡ tag.Ping → contains (h .flags) ack ≡ false →
+    now ≤ lastTime → c .ended ≡ false → PingedAt c (h .«stream_id») →
+    step c (rules.frame now head []) ≡ gives (pingAnswer (h .length .0) (withAck (pingHeader (h .length .0)))) c
+
+-- "round trip = elapsed, next ping at now + interval": the pong of the ping that was sent at a time is done, and of the state the
+-- pings alone change.
+abbrev pub PongIsTaken : Type 0
+PongIsTaken =
+    (c : Conn) → Reach c → (now sent : ℕ) (head : List ℕ) (h : Header) → decoded head ≡ found.Header h → h .tag ≡ tag.Ping → contains (h .flags) ack ≡ true →
+    now ≤ lastTime → c .ended ≡ false → c .pings .state ≡ AwaitingPong sent (h .length .0) →
+    step c (rules.frame now head []) ≡ gives (bare reply.Done) (withPings c (record {
+      state = Waiting (now + c .config .interval);
+      «next_id» = c .pings .«next_id»;
+      «round_trip» = Known (elapsed sent now);
+    }))
+
+-- "no ping outstanding and due time <= now: Ping SYN with the next id, which runs from 4294967295 to 0": then the pong of that id is
+-- awaited from now on.
+abbrev pub TickIsSent : Type 0
+TickIsSent =
+    (c : Conn) (now due : ℕ) → now ≤ lastTime → c .ended ≡ false → c .pings .state ≡ Waiting due → due ≤ now →
+    let id = c .pings .«next_id» in
+    step c (rules.tick now) ≡ gives (pingAnswer id (withSyn (pingHeader id))) (withPings c (record {
+      state = AwaitingPong now id;
+      «next_id» = idAfter id;
+      «round_trip» = c .pings .«round_trip»;
+    }))
+
+-- ---- the end of a stream
+
+-- "next state SendClosed": the state of a stream once our FIN is sent
+abbrev pub finSent : State → State
+finSent (Open a) = SendClosed
+finSent SendClosed = SendClosed
+finSent RecvClosed = Closed
+finSent Closed = Closed
+
+-- "FIN, with ACK if still owed and then owed no more, .. SYN is not added and stays owed": a close on a held handle whose stream is
+-- not Closed sends a Data header of length 0 with FIN, and with ACK where that is owed.
+abbrev pub CloseIsSent : Type 0
+CloseIsSent =
+    (c : Conn) (now i : ℕ) → now ≤ lastTime → entry (c .slots) i .held ≡ true → entry (c .slots) i .stream .state ≢ Closed →
+    let s = entry (c .slots) i .stream in
+    let r = step c (rules.close now i) in
+    (r .outcome ≡ onSlot i reply.Done value.None (Frame (closeStream (s .id) (owesAck (s .flag)))) [])
+    × (entry (r .after .slots) i .stream .state ≡ finSent (s .state))
+    × (entry (r .after .slots) i .stream .flag ≡ cond (owesAck (s .flag)) owed.None (s .flag))
+
+-- "if it was Open, RST is given; RecvClosed gives FIN": a drop of a handle whose stream is in the table takes it out, and the slot
+-- is free.
+abbrev pub DropIsSent : Type 0
+DropIsSent =
+    (c : Conn) → Reach c → (now i : ℕ) → now ≤ lastTime → entry (c .slots) i .listed ≡ true →
+    let s = entry (c .slots) i .stream in
+    let r = step c (rules.drop now i) in
+    Drops c i r
+    × ((a : Bool) → s .state ≡ Open a → r .outcome .header ≡ Frame (withRst (dataHeader (s .id) (record { 0 = 0 }))))
+    × (s .state ≡ RecvClosed → r .outcome .header ≡ Frame (withFin (dataHeader (s .id) (record { 0 = 0 }))))
