@@ -170,11 +170,11 @@ isOpen (rules.close now i) = false
 isOpen (rules.drop now i) = false
 isOpen (rules.gone now) = false
 
+-- the id that a call gave, where it is an open that was done; else none
 abbrev pub idIn : Value → List ℕ
 idIn (value.Of id) = id ∷ []
 idIn value.None = []
 
--- the id that a call gave, where it is an open that was done
 abbrev pub idOf : rules.Call → Outcome → List ℕ
 idOf k o = cond (and (isOpen k) (isDone (o .reply))) (idIn (o .value)) []
 

@@ -104,6 +104,10 @@ writes (suc n) = rules.write 0 0 (zeros 16384) ∷ writes n
 abbrev pub keepsMark : List rules.Call
 keepsMark = synData 0 2 0 ∷ (writes 17 ++ (rules.close 0 0 ∷ rules.frame 0 (head 0 4 2 0) [] ∷ []))
 
+-- 256 opens that no ACK answers, and one that waits behind them
+abbrev pub opensAndWaits : List rules.Call
+opensAndWaits = replicate 257 (rules.open-stream 0)
+
 -- ---- long runs
 
 -- round k: Data with two bytes that tell the round, and a read
@@ -176,6 +180,8 @@ Runs =
     × From (client 2 1048576 2 64) keepsMark (λ r. entry (r .after .slots) 0 .listed ≡ false)
     × From (client 2 1048576 2 64) keepsMark (λ r. entry (r .after .slots) 0 .stream .writer ≡ true)
     × From (client 2 1048576 2 64) keepsMark (λ r. step (r .after) (rules.drop 0 0) .outcome .wakes ≡ noWakes)
+    -- an open that waits is woken by an ACK for an id that is not in the table
+    × From (client 257 67371008 257 0) opensAndWaits (λ r. step (r .after) (rules.frame 0 (head 0 2 2 0) []) .outcome .wakes .opener ≡ true)
     -- a hundred rounds, each delivered as it was sent
     × From (client 4 1048576 4 64) (synData 0 2 0 ∷ rounds 100) (λ r. given (r .outcomes) ≡ [] ∷ echoes 100)
     -- no fixed reply
