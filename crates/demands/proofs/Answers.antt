@@ -1,13 +1,13 @@
--- What opens, reads and drops answer, and what a run of calls keeps. Assumes nothing.
-use mathlib.Core.Path.{_≡_, refl, sym, ap}
+-- What reads and drops answer, and what a run of calls keeps. Assumes nothing.
+use mathlib.Core.Path.{_≡_, refl, ap}
 use mathlib.Core.Bool.{Bool, true, false, cond}
 use mathlib.Core.List.{List, [], _∷_}
 use Prim.Native.Nat.{ℕ, zero, suc, _+_, _-_, _%_, _≤_}
 use native.Mathlib.Omega.{arith}
 use native.Mathlib.Nat.{le-refl}
 use lib.ListN.{length, take}
-use lib.Dec.{ltb, leb}
-use borrow.Author.Tests.{ltb-false, le-ltb}
+use lib.Dec.{ltb}
+use borrow.Author.Tests.{le-ltb}
 use Rattle.flow_control.specs.Windows.{top}
 use Rattle.stream.specs.Streams as stream
 use Rattle.stream.specs.declared.Updated.{Updated}
@@ -15,49 +15,19 @@ use Rattle.stream.specs.declared.Reading.{Reading}
 use Rattle.stream.specs.declared.Reading.the-variants as reading
 use Rattle.rules.specs.declared.Mode.{Mode}
 use Rattle.rules.specs.declared.Mode.the-variants.{Client, Server}
-use Rattle.rules.specs.declared.Reply.{Reply}
-use Rattle.rules.specs.declared.Reply.the-variants as reply
-use Rattle.rules.specs.declared.Value.the-variants as value
 use Rattle.rules.specs.Settings.{lastTime}
 use Rattle.rules.specs.Lists.{Place, at, nowhere}
-use Rattle.rules.specs.State.{Entry, Conn, entry, firstOwn, find, lowestFree, listedCount, unacknowledged, withGrowth}
+use Rattle.rules.specs.State.{Entry, Conn, entry, firstOwn, find, withGrowth}
 use Rattle.rules.specs.Ending.{Result}
-use Rattle.rules.specs.Calls.{growthOf, openAt, open-rules, readRest, readWith, readRules, dropAt, dropRules}
+use Rattle.rules.specs.Calls.{growthOf, readRest, readWith, readRules, dropAt, dropRules}
 use Rattle.rules.specs.Step.{step, run}
 use Rattle.rules.specs.Step as rules
-use Rattle.demands.specs.History.{isDone}
-use Rattle.demands.specs.Theorems.{Gave, lastOwn}
-use Rattle.demands.proofs.Lists.{split, true-not-false}
+use Rattle.demands.specs.Theorems.{lastOwn}
+use Rattle.demands.proofs.Lists.{split}
 use Rattle.demands.proofs.Invariant.{Inv}
 use Rattle.demands.proofs.Steps.{sound}
 
--- ---- an open
-
-not-done : {P : Type 0} (r : Reply) → isDone r ≡ false → r ≡ reply.Done → P
-not-done r n e = true-not-false (ap isDone e) n
-
-of-is : (a b : ℕ) → value.Of a ≡ value.Of b → a ≡ b
-of-is a b e = cc
-
--- the id given is the next one, the next one goes by 2, and that passes no 2^32-1
-abbrev Opens : Conn → Result → Type 0
-Opens c r = (id : ℕ) → Gave r id → (id ≡ c .nextId) × (r .after .nextId ≡ c .nextId + 2) × (c .nextId + 2 ≤ top)
-
-module _ (c : Conn) (now : ℕ) where
-  opens-at : c .nextId + 2 ≤ top → (p : Place) → Opens c (openAt p c now)
-  unfolding openAt
-  opens-at t nowhere id g = not-done _ refl (g .0)
-  opens-at t (at i) id g = (sym (of-is (c .nextId) id (g .1)), refl, t)
-
-  pub opens : Opens c (step c (rules.open-stream now))
-  unfolding step open-rules
-  opens =
-      split (Opens c) (ltb lastTime now) (λ t id g. not-done _ refl (g .0)) (λ t.
-      split (Opens c) (c .ended) (λ e id g. not-done _ refl (g .0)) (λ e.
-      split (Opens c) (leb (c .config .«max_num_streams») (listedCount (c .slots))) (λ m id g. not-done _ refl (g .0)) (λ m.
-      split (Opens c) (leb 256 (unacknowledged (c .config .mode) (c .slots))) (λ u id g. not-done _ refl (g .0)) (λ u.
-      split (Opens c) (ltb top (c .nextId + 2)) (λ n id g. not-done _ refl (g .0)) (λ n.
-      opens-at (ltb-false top (c .nextId + 2) n) (lowestFree (c .slots)))))))
+-- ---- ids
 
 -- an id of our parity that leaves room for the next is at most the last one
 pub last-own : (m : Mode) (id : ℕ) → id + 2 ≤ top → id % 2 ≡ firstOwn m % 2 → id ≤ lastOwn m

@@ -12,6 +12,8 @@ pub mod Handles
 pub mod Steps
 pub mod Answers
 pub mod Bytes
+pub mod Woken
+pub mod Turns
 pub mod Theorems
 pub mod Stale
 pub mod Framed

@@ -13,7 +13,6 @@ use Rattle.frame.specs.Header.{initialWindow}
 use Rattle.stream.specs.Streams.{closed, withWaits}
 use Rattle.stream.specs.declared.Stream.{Stream}
 use Rattle.stream.specs.declared.State.the-variants.{Closed}
-use Rattle.stream.specs.declared.Sent.the-variants.{Nothing}
 use Rattle.rules.specs.declared.Reply.{Reply}
 use Rattle.rules.specs.declared.Reply.the-variants as reply
 use Rattle.rules.specs.Lists.{sum}
@@ -24,6 +23,7 @@ use Rattle.rules.specs.Calls.{growthOf}
 use Rattle.rules.proofs.Lists.{sum-set}
 use Rattle.demands.specs.Demands.{heldCount}
 use Rattle.demands.specs.History.{Event, nothing, made, accepted, gaveOut, freed, put}
+use Rattle.demands.specs.Theorems.{Bare}
 use Rattle.demands.proofs.Lists.{true-not-false, at-set, getD-map, sum-map, sum-map-none, sum-le, sum-add, sum-each}
 use Rattle.demands.proofs.Invariant.{Flows, Good, Inv}
 
@@ -89,7 +89,7 @@ pub record Sound (c : Conn) (about : ℕ → Type 0) (opening : Bool) (e : Event
   pub config : r .after .config ≡ c .config
   pub next : c .nextId ≤ r .after .nextId
   pub refusal : leavesAll (r .outcome .reply) ≡ true → r .after ≡ c
-  pub silent : mayGive (r .outcome .reply) ≡ false → (r .outcome .header ≡ Nothing) × (r .outcome .body ≡ []) × (r .outcome .bytes ≡ [])
+  pub silent : mayGive (r .outcome .reply) ≡ false → Bare (r .outcome)
   pub figure : (r .after .growth ≡ c .growth) ⊎ (moves e ≡ true)
   pub moved : (j : ℕ) → bytesOf (r .after .slots) j ≡ left e (bytesOf (c .slots)) j
   pub crowded : r .outcome .reply ≡ reply.NoRoom → Crowded c opening
@@ -122,7 +122,7 @@ module _ (c : Conn) (about : ℕ → Type 0) (opening : Bool) (e : Event) where
     config = refl;
     next = le-refl _;
     refusal = λ t. refl;
-    silent = λ t. (refl, refl, refl);
+    silent = λ t. (refl, refl, refl, refl, refl);
     figure = inl refl;
     moved = b;
     crowded = k;
@@ -205,7 +205,7 @@ module _ (c : Conn) (v : Inv c) where
     config = refl;
     next = le-refl _;
     refusal = λ t. true-not-false t l;
-    silent = λ t. (refl, refl, refl);
+    silent = λ t. (refl, refl, refl, refl, refl);
     figure = inl refl;
     moved = λ j. rw k (at-end (λ j x. x .bytes ≡ bytesOf (c .slots) j) (c .slots) (λ i. refl) j);
     crowded = λ q. not-room r n q;

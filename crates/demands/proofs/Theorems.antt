@@ -10,21 +10,22 @@ use lib.Dec.{eqb}
 use borrow.Author.Tests.{eqb-true}
 use Rattle.frame.specs.Header.{initialWindow}
 use Rattle.stream.specs.States.{canRead}
-use Rattle.rules.specs.State.{Entry, Conn, vacant, entry, one, firstOwn}
+use Rattle.rules.specs.State.{Entry, Conn, initial, vacant, entry, one, firstOwn}
 use Rattle.rules.specs.Ending.{Result}
 use Rattle.rules.specs.Calls.{growthOf, readRules, readWith, windowStep}
 use Rattle.rules.specs.Step.{step, run}
 use Rattle.rules.specs.Step as rules
-use Rattle.demands.specs.Demands.{heldCount, wouldOpen}
+use Rattle.demands.specs.Demands.{Reach, then, heldCount, wouldOpen}
 use Rattle.demands.specs.History.{event}
-use Rattle.demands.specs.Theorems.{endedForReads, GrowthIsASum, GrowthIsWithin, GrowthIsReturned, GrowthStays, WindowsAreWithin, BytesAreKept, UnreadIsTheRest, ReadsGiveTheNext, ReadsGiveAll, UnreadIsWithin, RoomForHandles, RoomForM, RoomForK, IdsAreOurs, IdsRise, NextIdIsAbove, ListedAreDistinct, ListedAreHeld, UnlistedAreClosed, FreeAreVacant, TableIsWithin, RefusalsChangeNothing, OnlyDoneGives, SettingsAreAllowed, SettingsStay}
+use Rattle.demands.specs.Theorems.{endedForReads, GrowthIsASum, GrowthIsWithin, GrowthIsReturned, GrowthStays, WindowsAreWithin, BytesAreKept, UnreadIsTheRest, ReadsGiveTheNext, ReadsGiveAll, EndedReadsGiveNone, UnreadIsWithin, RoomForHandles, RoomForM, RoomForK, IdsAreOurs, IdsRise, IdsGoByTwo, NextIdIsAbove, ListedAreDistinct, ListedAreHeld, UnlistedAreClosed, FreeAreVacant, TableIsWithin, RefusalsChangeNothing, OnlyDoneGives, SettingsAreAllowed, SettingsStay}
 use Rattle.demands.proofs.Lists.{split, true-not-false, sum-eq, sum-count}
 use Rattle.demands.proofs.Invariant.{Good, Inv}
 use Rattle.demands.proofs.Sound.{Crowded, moves}
-use Rattle.demands.proofs.Steps.{callOpens, sound, reached}
+use Rattle.demands.proofs.Steps.{callOpens, sound, started, reached, run-reaches}
 use Rattle.demands.proofs.Handles.{growth-part}
-use Rattle.demands.proofs.Answers.{opens, last-own, run-rises, front, gives-all, timely, holds, drop-returns}
+use Rattle.demands.proofs.Answers.{last-own, run-rises, front, gives-all, timely, holds, drop-returns}
 use Rattle.demands.proofs.Bytes.{event-still, whole, rest}
+use Rattle.demands.proofs.Turns.{gave, by-two}
 
 -- ---- growth
 
@@ -81,6 +82,10 @@ reads-give-all c now i asked t l h =
     (λ d. true-not-false d l)
     (λ d. gives-all c i e u n (eqb n 0) (canRead (u .stream .state)) (eqb-true n 0)))
 
+pub ended-reads-give-none : EndedReadsGiveNone
+unfolding step readRules
+ended-reads-give-none c now i asked t d h = rw (timely c now _ t, holds c i _ h, d)
+
 pub unread-is-within : UnreadIsWithin
 unread-is-within c r = reached r .room
 
@@ -122,18 +127,21 @@ room-for-k c r k p e =
 
 pub ids-are-ours : IdsAreOurs
 ids-are-ours c r now id g =
-    let o = opens c now id g in
     let v = reached r in
+    let o = gave c v now id g in
     let p : id % 2 ≡ firstOwn (c .config .mode) % 2 = rw (o .0) (v .parity) in
     (last-own (c .config .mode) id (omega (arith, o .0, o .2)) p, p)
 
 pub ids-rise : IdsRise
 ids-rise c r now later a b ks g h =
-    let v = sound c (reached r) (rules.open-stream now) .inv in
     let d = step c (rules.open-stream now) .after in
-    let first = opens c now a g in
-    let second = opens (run d ks .after) later b h in
-    omega (arith, first .0, first .1, second .0, run-rises d v ks)
+    let m : Reach d = then r (rules.open-stream now) in
+    let first = gave c (reached r) now a g in
+    let second = gave (run d ks .after) (reached (run-reaches m ks)) later b h in
+    omega (arith, first .0, first .1, second .0, run-rises d (reached m) ks)
+
+pub ids-go-by-two : IdsGoByTwo
+ids-go-by-two s c e ks = by-two (initial c) (started s c e) ks
 
 pub next-id-is-above : NextIdIsAbove
 next-id-is-above c r = let v = reached r in (v .last, v .parity, v .below)

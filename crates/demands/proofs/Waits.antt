@@ -14,7 +14,6 @@ use Rattle.rules.specs.declared.Reply.the-variants as reply
 use Rattle.rules.specs.Lists.{Place, at, nowhere}
 use Rattle.rules.specs.State.{Entry, Conn, vacant, entry, find}
 use Rattle.rules.specs.Ending.{Result}
-use Rattle.rules.specs.Frames.{isKnown}
 use Rattle.rules.specs.Step.{onDecoded, step}
 use Rattle.rules.specs.Step as rules
 use Rattle.demands.specs.Handles.{about, aboutDecoded}
@@ -26,6 +25,7 @@ use Rattle.demands.proofs.Steps.{sound, reached}
 use Rattle.demands.proofs.Stale.{found-at}
 use Rattle.demands.proofs.Marks.{cleared, Reports, Goes, Ends, Waits, refused, timed-ok, live-ok, holding-ok, itself, none, headers}
 use Rattle.demands.proofs.OwnMarks.{reads, writes, closes, drops, opens, ticks}
+use Rattle.demands.proofs.Woken.{at-is, not-at}
 
 -- ---- every call
 
@@ -69,11 +69,8 @@ was-cleared r true true e t = true-not-false t e
 was-cleared r true false e t = (refl, refl)
 was-cleared r false a e t = true-not-false t e
 
-at-is : (i j : ℕ) → at i ≡ at j → i ≡ j
-at-is i j e = cc
-
 is-at : (p : Place) (j : ℕ) → Dec (p ≡ at j)
-is-at nowhere j = no (λ e. true-not-false refl (sym (ap isKnown e)))
+is-at nowhere j = no (λ e. not-at j e)
 is-at (at i) j = go (ℕ-discrete i j)
   where
     go : Dec (i ≡ j) → Dec (at i ≡ at j)

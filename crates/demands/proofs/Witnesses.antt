@@ -10,7 +10,7 @@ use Rattle.demands.specs.Witnesses.{Runs, client, stales, staleState}
 
 pub runs : Runs
 unfolding ackStep onReset makeAt make synRules synData synUpdate takeAt knownData knownUpdate dataRules updateRules pongRules pingRules frameRules onHeader openAt open-rules readRest readWith windowStep readRules writeWith writeRules closeRules dropAt dropRules pingOut tickRules onDecoded step
-runs = (refl, refl, refl, refl, refl, refl, refl, refl, refl, refl, refl, refl, refl, refl, refl, refl, refl, refl)
+runs = ((refl, refl), (refl, refl), (refl, refl), (refl, refl), (refl, refl), (refl, refl), (refl, refl), (refl, refl), (refl, refl), (refl, refl), (refl, refl), (refl, refl), (refl, refl), (refl, refl), (refl, refl), (refl, refl), (refl, refl), (refl, refl), (refl, refl))
 
 -- the theorems on stale handles speak of a state that is reached
 pub stale-is-reached : Stale staleState 0 1

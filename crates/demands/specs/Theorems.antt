@@ -1,28 +1,33 @@
--- The three demands, each as a statement that can be read without its proof. `proofs/Theorems.antt` proves each under the
--- same name in lower case. `Reach c` is any state that accepted settings and any calls lead to.
+-- The third demand, and what answers carry, each as a statement that can be read without its proof. `proofs/Theorems.antt` proves
+-- each under the same name in lower case. `Reach c` is any state that accepted settings and any calls lead to.
 use mathlib.Core.Path.{_≡_}
 use mathlib.Core.Logic.{_≢_}
 use mathlib.Core.Bool.{Bool, true, false, cond}
-use mathlib.Core.List.{List, [], _++_}
-use Prim.Native.Nat.{ℕ, _+_, _-_, _*_, _%_, _≤_, _<_, min}
+use mathlib.Core.List.{List, [], _∷_, _++_}
+use Prim.Native.Nat.{ℕ, zero, suc, _+_, _-_, _*_, _%_, _≤_, _<_, min}
 use lib.ListN.{length, take, drop}
 use Rattle.frame.specs.Header.{initialWindow}
 use Rattle.flow_control.specs.Windows.{top}
 use Rattle.stream.specs.declared.State.the-variants.{Closed}
 use Rattle.stream.specs.declared.Sent.the-variants.{Nothing}
+use Rattle.rules.specs.declared.Settings.{Settings}
+use Rattle.rules.specs.declared.Config.{Config}
+use Rattle.rules.specs.declared.Checked.the-variants.{Fine}
 use Rattle.rules.specs.declared.Mode.{Mode}
 use Rattle.rules.specs.declared.Mode.the-variants.{Client, Server}
 use Rattle.rules.specs.declared.Reply.the-variants as reply
+use Rattle.rules.specs.declared.Which.the-variants as which
+use Rattle.rules.specs.declared.Value.{Value}
 use Rattle.rules.specs.declared.Value.the-variants as value
-use Rattle.rules.specs.Settings.{lastTime}
-use Rattle.rules.specs.State.{Conn, vacant, entry, one, firstOwn, isOwn, listedCount, unreadTotal}
-use Rattle.rules.specs.Ending.{Result}
-use Rattle.rules.specs.Calls.{growthOf}
+use Rattle.rules.specs.Settings.{checked, lastTime}
+use Rattle.rules.specs.State.{Conn, initial, vacant, entry, one, firstOwn, isOwn, listedCount, unreadTotal}
+use Rattle.rules.specs.Ending.{Result, gives}
+use Rattle.rules.specs.Calls.{growthOf, onSlot}
 use Rattle.rules.specs.Step.{step, run}
 use Rattle.rules.specs.Step as rules
-use Rattle.rules.specs.Replies.{leavesAll, mayGive}
-use Rattle.demands.specs.Demands.{Reach, heldCount, heldGrowth, wouldOpen}
-use Rattle.demands.specs.History.{Heard, Story}
+use Rattle.rules.specs.Replies.{Outcome, leavesAll, mayGive}
+use Rattle.demands.specs.Demands.{Reach, heldCount, heldGrowth, and, wouldOpen}
+use Rattle.demands.specs.History.{Heard, Story, isDone}
 
 -- ---- growth
 
@@ -97,6 +102,12 @@ ReadsGiveAll =
     (c : Conn) → (now i asked : ℕ) → now ≤ lastTime → endedForReads c ≡ false → entry (c .slots) i .held ≡ true →
     step c (rules.read now i asked) .outcome .bytes ≡ take (min asked (length (entry (c .slots) i .bytes))) (entry (c .slots) i .bytes)
 
+-- "Read: ended with read-after-close off, done with 0 bytes": nothing is given, and nothing changes.
+abbrev pub EndedReadsGiveNone : Type 0
+EndedReadsGiveNone =
+    (c : Conn) → (now i asked : ℕ) → now ≤ lastTime → endedForReads c ≡ true → entry (c .slots) i .held ≡ true →
+    step c (rules.read now i asked) ≡ gives (onSlot i reply.Done (value.Of 0) Nothing []) c
+
 -- All unread bytes are within the pool, so that "P less all unread bytes" hides nothing.
 abbrev pub UnreadIsWithin : Type 0
 UnreadIsWithin = (c : Conn) → Reach c → unreadTotal (c .slots) ≤ c .config .pool
@@ -149,6 +160,41 @@ IdsRise =
     (c : Conn) → Reach c → (now later a b : ℕ) (ks : List rules.Call) →
     Gave (step c (rules.open-stream now)) a → Gave (step (run (step c (rules.open-stream now) .after) ks .after) (rules.open-stream later)) b → a < b
 
+abbrev pub isOpen : rules.Call → Bool
+isOpen (rules.tick now) = false
+isOpen (rules.frame now head body) = false
+isOpen (rules.open-stream now) = true
+isOpen (rules.read now i asked) = false
+isOpen (rules.write now i given) = false
+isOpen (rules.close now i) = false
+isOpen (rules.drop now i) = false
+isOpen (rules.gone now) = false
+
+-- the id that a call gave, where it is an open that was done; else none
+abbrev pub idIn : Value → List ℕ
+idIn (value.Of id) = id ∷ []
+idIn value.None = []
+
+abbrev pub idOf : rules.Call → Outcome → List ℕ
+idOf k o = cond (and (isOpen k) (isDone (o .reply))) (idIn (o .value)) []
+
+-- the ids that the opens of a run gave, in order
+abbrev pub ids : Conn → List rules.Call → List ℕ
+ids c [] = []
+ids c (k ∷ ks) = idOf k (step c k .outcome) ++ ids (step c k .after) ks
+
+-- so many numbers, the first one and on by 2
+abbrev pub byTwo : ℕ → ℕ → List ℕ
+byTwo zero first = []
+byTwo (suc n) first = first ∷ byTwo n (first + 2)
+
+-- "ids start at 1 (client) or 2 (server) and go by 2": whatever calls stand between, those are the ids that a connection's opens give.
+abbrev pub IdsGoByTwo : Type 0
+IdsGoByTwo =
+    (s : Settings) (c : Config) → checked s ≡ Fine c → (ks : List rules.Call) →
+    let given = ids (initial c) ks in
+    given ≡ byTwo (length given) (firstOwn (c .mode))
+
 -- The next id has 32 bits and our parity, and every held stream of our parity has an id below it.
 abbrev pub NextIdIsAbove : Type 0
 NextIdIsAbove =
@@ -189,11 +235,13 @@ TableIsWithin =
 abbrev pub RefusalsChangeNothing : Type 0
 RefusalsChangeNothing = (c : Conn) → Reach c → (k : rules.Call) → leavesAll (step c k .outcome .reply) ≡ true → step c k .after ≡ c
 
--- "replies but 0, 1 and 2 give neither"
+-- "`-` in all but number, reply and wakes"
+abbrev pub Bare : Outcome → Type 0
+Bare o = (o .slot ≡ which.None) × (o .value ≡ value.None) × (o .header ≡ Nothing) × (o .body ≡ []) × (o .bytes ≡ [])
+
+-- "replies but 0, 1 and 2 give neither"; "refusals 3 to 13 have `-` ..", and so has 14.
 abbrev pub OnlyDoneGives : Type 0
-OnlyDoneGives =
-    (c : Conn) → Reach c → (k : rules.Call) → mayGive (step c k .outcome .reply) ≡ false →
-    (step c k .outcome .header ≡ Nothing) × (step c k .outcome .body ≡ []) × (step c k .outcome .bytes ≡ [])
+OnlyDoneGives = (c : Conn) → Reach c → (k : rules.Call) → mayGive (step c k .outcome .reply) ≡ false → Bare (step c k .outcome)
 
 -- A connection's settings are within the bounds of document 01, its limit being at most 2^64-1 by its type.
 abbrev pub SettingsAreAllowed : Type 0

@@ -1,13 +1,21 @@
 -- "Woken means: cleared and reported if it was waiting. Only this or ending clears a wait." Sentences in quotes are document 01's.
 use mathlib.Core.Path.{_≡_}
 use mathlib.Core.Logic.{_⊎_}
-use mathlib.Core.Bool.{Bool, true, false}
+use mathlib.Core.Bool.{Bool, true, false, cond}
+use mathlib.Core.List.{List}
 use Prim.Native.Nat.{ℕ}
+use Rattle.frame.specs.Header.{contains, ack, fin, rst}
 use Rattle.frame.specs.Wire.{decoded}
+use Rattle.frame.specs.declared.header.Header.{Header}
+use Rattle.frame.specs.declared.header.Tag.{Tag}
+use Rattle.frame.specs.declared.header.Tag.the-variants as tag
 use Rattle.frame.specs.declared.header.Decoded.{Decoded}
 use Rattle.frame.specs.declared.header.Decoded.the-variants as found
 use Rattle.stream.specs.declared.Stream.{Stream}
+use Rattle.rules.specs.declared.Reply.the-variants as reply
+use Rattle.rules.specs.declared.Value.the-variants as value
 use Rattle.rules.specs.declared.Which.the-variants as which
+use Rattle.rules.specs.Replies.{leavesAll}
 use Rattle.rules.specs.Lists.{Place, at, nowhere}
 use Rattle.rules.specs.State.{Conn, entry, find}
 use Rattle.rules.specs.Step.{step}
@@ -104,3 +112,66 @@ EndingIsReported =
     × (w .all ≡ true → (c .ended ≡ false) × (r .after .ended ≡ true) × (w .reader ≡ false) × (w .writer ≡ false) × (w .opener ≡ false))
     × (w .all ≡ true → r .after .openWait ≡ false)
     × (w .all ≡ true → (j : ℕ) → (entry (r .after .slots) j .stream .reader ≡ false) × (entry (r .after .slots) j .stream .writer ≡ false))
+
+-- ---- who is set waiting, and who is woken
+
+-- What a call that waits leaves on: a read its stream's reader, a write its writer, an open its own mark. No other call waits.
+abbrev pub Waiting : rules.Call → Conn → Type 0
+Waiting (rules.tick now) d = ⊥
+Waiting (rules.frame now head body) d = ⊥
+Waiting (rules.open-stream now) d = d .openWait ≡ true
+Waiting (rules.read now i asked) d = entry (d .slots) i .stream .reader ≡ true
+Waiting (rules.write now i given) d = entry (d .slots) i .stream .writer ≡ true
+Waiting (rules.close now i) d = ⊥
+Waiting (rules.drop now i) d = ⊥
+Waiting (rules.gone now) d = ⊥
+
+-- 1: "reader, writer or open wait set"; "value (`-` at reply 1 ..)"
+abbrev pub WaitsAreSet : Type 0
+WaitsAreSet =
+    (c : Conn) → Reach c → (k : rules.Call) →
+    let r = step c k in
+    r .outcome .reply ≡ reply.Wait → Waiting k (r .after) × (r .outcome .value ≡ value.None)
+
+-- "Woken means: cleared and reported if it was waiting": a mark before and after a call, and what is told of it
+abbrev pub IsWoken : Bool → Bool → Bool → Type 0
+IsWoken before after told = (after ≡ false) × (told ≡ before)
+
+-- "Data and WindowUpdate first": the types that have an ACK step
+abbrev pub hasAckStep : Tag → Bool
+hasAckStep tag.Data = true
+hasAckStep tag.WindowUpdate = true
+hasAckStep tag.Ping = false
+hasAckStep tag.GoAway = false
+
+-- "with ACK, .. an open wait is woken even for an unknown id": whatever the reply, but for those that change nothing (7, 8, 10, 13).
+abbrev pub AcksWakeTheOpen : Type 0
+AcksWakeTheOpen =
+    (c : Conn) → Reach c → (now : ℕ) (head body : List ℕ) (h : Header) → decoded head ≡ found.Header h → hasAckStep (h .tag) ≡ true →
+    contains (h .flags) ack ≡ true → c .ended ≡ false →
+    let r = step c (rules.frame now head body) in
+    leavesAll (r .outcome .reply) ≡ false → IsWoken (c .openWait) (r .after .openWait) (r .outcome .wakes .opener)
+
+-- "RST: .. reader and writer woken"; "Data: .. reader woken"; "WindowUpdate: .. FIN (waking the reader), writer woken"
+abbrev pub wakesReader : Tag → Header → Bool
+wakesReader tag.Data h = true
+wakesReader tag.WindowUpdate h = cond (contains (h .flags) rst) true (contains (h .flags) fin)
+wakesReader tag.Ping h = false
+wakesReader tag.GoAway h = false
+
+abbrev pub wakesWriter : Tag → Header → Bool
+wakesWriter tag.Data h = contains (h .flags) rst
+wakesWriter tag.WindowUpdate h = true
+wakesWriter tag.Ping h = false
+wakesWriter tag.GoAway h = false
+
+-- A frame that is done for the stream in slot i of the table wakes those of it. (That the slot told is i, `ReportsAreOfWaits` says.)
+abbrev pub TakenWakes : Type 0
+TakenWakes =
+    (c : Conn) → Reach c → (now i : ℕ) (head body : List ℕ) (h : Header) → decoded head ≡ found.Header h → find (c .slots) (h .«stream_id») ≡ at i →
+    let r = step c (rules.frame now head body) in
+    let before = entry (c .slots) i .stream in
+    let after = entry (r .after .slots) i .stream in
+    r .outcome .reply ≡ reply.Done →
+    (wakesReader (h .tag) h ≡ true → IsWoken (before .reader) (after .reader) (r .outcome .wakes .reader))
+    × (wakesWriter (h .tag) h ≡ true → IsWoken (before .writer) (after .writer) (r .outcome .wakes .writer))

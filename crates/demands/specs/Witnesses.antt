@@ -6,8 +6,9 @@ use mathlib.Core.List.{List, [], _∷_, _++_, map}
 use Prim.Native.Nat.{ℕ, zero, suc, _+_, _/_, _%_}
 use lib.ListN.{replicate}
 use Rattle.rules.specs.declared.Settings.{Settings}
+use Rattle.rules.specs.declared.Checked.the-variants.{Fine}
 use Rattle.rules.specs.declared.Which.the-variants as which
-use Rattle.rules.specs.Settings.{configOf}
+use Rattle.rules.specs.Settings.{checked, configOf}
 use Rattle.rules.specs.Replies.{Outcome, number, noWakes}
 use Rattle.rules.specs.State.{Conn, entry, initial}
 use Rattle.rules.specs.Step.{step, run}
@@ -49,6 +50,10 @@ pong now = rules.frame now (head 2 2 0 0) []
 
 abbrev pub ran : Settings → List rules.Call → rules.Ran
 ran s ks = run (initial (configOf s)) ks
+
+-- settings that are accepted, and what a run from them comes to
+abbrev pub From : Settings → List rules.Call → (rules.Ran → Type 0) → Type 0
+From s ks P = (checked s ≡ Fine (configOf s)) × P (ran s ks)
 
 abbrev pub replies : List Outcome → List ℕ
 replies os = map (λ o. number (o .reply)) os
@@ -98,6 +103,10 @@ writes (suc n) = rules.write 0 0 (zeros 16384) ∷ writes n
 -- a writer waits once 16 of them have used up the window; a close and a FIN then take its stream out of the table, mark and all
 abbrev pub keepsMark : List rules.Call
 keepsMark = synData 0 2 0 ∷ (writes 17 ++ (rules.close 0 0 ∷ rules.frame 0 (head 0 4 2 0) [] ∷ []))
+
+-- 256 opens that no ACK answers, and one that waits behind them
+abbrev pub opensAndWaits : List rules.Call
+opensAndWaits = replicate 257 (rules.open-stream 0)
 
 -- ---- long runs
 
@@ -152,31 +161,33 @@ unknownType = rules.frame 0 (0 ∷ 4 ∷ zeros 10) [] ∷ rules.open-stream 0 �
 abbrev pub Runs : Type 0
 Runs =
     -- P of the limit is not enough once more than M handles are held, and limit + (K - M) x 262,144 is here the least that is
-    (replies (ran (client 1 262144 2 262144) handleKeepsRoom .outcomes) ≡ 0 ∷ 0 ∷ 8 ∷ [])
-    × (replies (ran (client 1 262144 2 524287) handlesFill .outcomes) ≡ 0 ∷ 0 ∷ 8 ∷ [])
-    × (replies (ran (client 1 262144 2 524288) handlesFill .outcomes) ≡ 0 ∷ 0 ∷ 0 ∷ [])
+    From (client 1 262144 2 262144) handleKeepsRoom (λ r. replies (r .outcomes) ≡ 0 ∷ 0 ∷ 8 ∷ [])
+    × From (client 1 262144 2 524287) handlesFill (λ r. replies (r .outcomes) ≡ 0 ∷ 0 ∷ 8 ∷ [])
+    × From (client 1 262144 2 524288) handlesFill (λ r. replies (r .outcomes) ≡ 0 ∷ 0 ∷ 0 ∷ [])
     -- grown by a read, kept by the RST, given back by the drop
-    × (ran (client 4 2097152 4 4294967295) grows .after .growth ≡ 262144)
-    × (ran (client 4 2097152 4 4294967295) growsAndResets .after .growth ≡ 262144)
-    × (ran (client 4 2097152 4 4294967295) growsAndDrops .after .growth ≡ 0)
+    × From (client 4 2097152 4 4294967295) grows (λ r. r .after .growth ≡ 262144)
+    × From (client 4 2097152 4 4294967295) growsAndResets (λ r. r .after .growth ≡ 262144)
+    × From (client 4 2097152 4 4294967295) growsAndDrops (λ r. r .after .growth ≡ 0)
     -- granted once, up to the maximum
-    × (entry (ran (client 4 2097152 4 4294967295) grows .after .slots) 0 .stream .flow .«max_receive_window» ≡ 524288)
-    × (entry (ran (client 4 2097152 4 4294967295) grows .after .slots) 0 .stream .flow .«receive_window» ≡ 524288)
+    × From (client 4 2097152 4 4294967295) grows (λ r. entry (r .after .slots) 0 .stream .flow .«max_receive_window» ≡ 524288)
+    × From (client 4 2097152 4 4294967295) grows (λ r. entry (r .after .slots) 0 .stream .flow .«receive_window» ≡ 524288)
     -- of a limit of M x 262,144 and 1,000 more, growth has the 1,000
-    × (ran (client 4 1049576 4 4294967295) grows .after .growth ≡ 1000)
+    × From (client 4 1049576 4 4294967295) grows (λ r. r .after .growth ≡ 1000)
     -- a drop of the stale handle tells its own slot and the newer stream's reader
-    × (step (ran (client 2 1048576 2 64) staleWaits .after) (rules.drop 0 0) .outcome .slot ≡ which.At (record { 0 = 0 }))
-    × (step (ran (client 2 1048576 2 64) staleWaits .after) (rules.drop 0 0) .outcome .wakes .reader ≡ true)
+    × From (client 2 1048576 2 64) staleWaits (λ r. step (r .after) (rules.drop 0 0) .outcome .slot ≡ which.At (record { 0 = 0 }))
+    × From (client 2 1048576 2 64) staleWaits (λ r. step (r .after) (rules.drop 0 0) .outcome .wakes .reader ≡ true)
     -- a mark outside the table goes with the handle, and is not told
-    × (entry (ran (client 2 1048576 2 64) keepsMark .after .slots) 0 .listed ≡ false)
-    × (entry (ran (client 2 1048576 2 64) keepsMark .after .slots) 0 .stream .writer ≡ true)
-    × (step (ran (client 2 1048576 2 64) keepsMark .after) (rules.drop 0 0) .outcome .wakes ≡ noWakes)
+    × From (client 2 1048576 2 64) keepsMark (λ r. entry (r .after .slots) 0 .listed ≡ false)
+    × From (client 2 1048576 2 64) keepsMark (λ r. entry (r .after .slots) 0 .stream .writer ≡ true)
+    × From (client 2 1048576 2 64) keepsMark (λ r. step (r .after) (rules.drop 0 0) .outcome .wakes ≡ noWakes)
+    -- an open that waits is woken by an ACK for an id that is not in the table
+    × From (client 257 67371008 257 0) opensAndWaits (λ r. step (r .after) (rules.frame 0 (head 0 2 2 0) []) .outcome .wakes .opener ≡ true)
     -- a hundred rounds, each delivered as it was sent
-    × (given (ran (client 4 1048576 4 64) (synData 0 2 0 ∷ rounds 100) .outcomes) ≡ [] ∷ echoes 100)
+    × From (client 4 1048576 4 64) (synData 0 2 0 ∷ rounds 100) (λ r. given (r .outcomes) ≡ [] ∷ echoes 100)
     -- no fixed reply
-    × (replies (ran (client 2 1048576 2 8) mixed .outcomes) ≡ mixedReplies)
-    × (replies (ran (client 2 1048576 2 8) unknownVersion .outcomes) ≡ 11 ∷ 5 ∷ [])
-    × (replies (ran (client 2 1048576 2 8) unknownType .outcomes) ≡ 12 ∷ 5 ∷ [])
+    × From (client 2 1048576 2 8) mixed (λ r. replies (r .outcomes) ≡ mixedReplies)
+    × From (client 2 1048576 2 8) unknownVersion (λ r. replies (r .outcomes) ≡ 11 ∷ 5 ∷ [])
+    × From (client 2 1048576 2 8) unknownType (λ r. replies (r .outcomes) ≡ 12 ∷ 5 ∷ [])
 
 -- the state after a stream was reset and its number opened again: slot 0 is stale, slot 1 is the newer
 abbrev pub staleState : Conn

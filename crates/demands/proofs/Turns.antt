@@ -1,0 +1,235 @@
+-- A call that waits leaves its mark and gives no value, a frame wakes whom it should, and the next id goes by 2 where an open gives
+-- one. Assumes nothing.
+use mathlib.Core.Path.{_≡_, refl, sym, ap, _∙_, subst}
+use mathlib.Core.Logic.{_⊎_, inl, inr}
+use mathlib.Core.Bool.{Bool, true, false, cond}
+use mathlib.Core.List.{List, [], _∷_, _++_}
+use Prim.Native.Nat.{ℕ, _+_, _-_, _≤_, min}
+use native.Mathlib.Nat.{suc-ne-zero}
+use lib.ListN.{length}
+use lib.Seq.{getD-set-same}
+use lib.Dec.{eqb, ltb, leb}
+use borrow.Author.Tests.{ltb-false}
+use Rattle.frame.specs.Wire.{decoded}
+use Rattle.frame.specs.declared.header.Header.{Header}
+use Rattle.frame.specs.declared.header.Decoded.{Decoded}
+use Rattle.frame.specs.declared.header.Decoded.the-variants as found
+use Rattle.rtt.specs.Pings.{nextPing}
+use Rattle.rtt.specs.declared.NextPing.{NextPing}
+use Rattle.rtt.specs.declared.NextPing.the-variants as ask
+use Rattle.flow_control.specs.Windows.{top}
+use Rattle.stream.specs.States.{canRead, canWrite}
+use Rattle.stream.specs.Streams as stream
+use Rattle.stream.specs.declared.Updated.{Updated}
+use Rattle.stream.specs.declared.Reading.the-variants as reading
+use Rattle.rules.specs.declared.Reply.{Reply}
+use Rattle.rules.specs.declared.Reply.the-variants as reply
+use Rattle.rules.specs.declared.Value.the-variants as value
+use Rattle.rules.specs.Replies.{leavesAll}
+use Rattle.rules.specs.Settings.{lastTime}
+use Rattle.rules.specs.Lists.{Place, at, nowhere}
+use Rattle.rules.specs.State.{Entry, Conn, vacant, entry, find, lowestFree, listedCount, unacknowledged, withSlot, withGrowth, withPings}
+use Rattle.rules.specs.Ending.{Result, refuse}
+use Rattle.rules.specs.Calls.{growthOf, openAt, open-rules, readRest, readWith, windowStep, readRules, writeWith, writeRules, closeRules, dropAt, dropRules, pingOut, tickRules}
+use Rattle.rules.specs.Step.{onDecoded, step}
+use Rattle.rules.specs.Step as rules
+use Rattle.demands.specs.Demands.{and}
+use Rattle.demands.specs.History.{isDone}
+use Rattle.demands.specs.Theorems.{Gave, endedForReads, isOpen, idOf, ids, byTwo}
+use Rattle.demands.specs.Waits.{Waiting, IsWoken, WaitsAreSet, AcksWakeTheOpen, wakesReader, wakesWriter, TakenWakes}
+use Rattle.demands.proofs.Lists.{split, true-not-false}
+use Rattle.demands.proofs.Invariant.{Inv, in-range}
+use Rattle.demands.proofs.Steps.{sound, reached}
+use Rattle.demands.proofs.Answers.{alive}
+use Rattle.demands.proofs.Woken.{isWait, not-done, Woken, acked-wakes, headers}
+
+-- ---- what is shown of a call
+
+-- no id is given and the next one stays; or the next one is given, and goes by 2, which does not pass 2^32-1
+abbrev pub Next : Conn → List ℕ → Conn → Type 0
+Next c given d = ((given ≡ []) × (d .nextId ≡ c .nextId)) ⊎ ((given ≡ c .nextId ∷ []) × (d .nextId ≡ c .nextId + 2) × (c .nextId + 2 ≤ top))
+
+pub record Turn (c : Conn) (k : rules.Call) (r : Result) : Type 0 where
+  pub waits : r .outcome .reply ≡ reply.Wait → Waiting k (r .after) × (r .outcome .value ≡ value.None)
+  pub next : Next c (idOf k (r .outcome)) (r .after)
+
+module _ (c : Conn) (k : rules.Call) where
+  -- a call that does not wait and gives no id
+  prompt : (r : Result) → isWait (r .outcome .reply) ≡ false → idOf k (r .outcome) ≡ [] → r .after .nextId ≡ c .nextId → Turn c k r
+  prompt r w e n = record { waits = λ q. true-not-false (ap isWait q) w; next = inl (e, n) }
+
+  refused : (q : Reply) → isWait q ≡ false → Turn c k (refuse c q)
+  refused q w = prompt _ w (split (λ (l : List ℕ). l ≡ []) (and (isOpen k) (isDone q)) (λ t. refl) (λ t. refl)) refl
+
+  timed-ok : (now : ℕ) (next : Result) → Turn c k next → Turn c k (rules.timed c now next)
+  timed-ok now next s = split (Turn c k) (ltb lastTime now) (λ t. refused reply.Time refl) (λ t. s)
+
+  live-ok : (next : Result) → (c .ended ≡ false → Turn c k next) → Turn c k (rules.live c next)
+  live-ok next s = split (Turn c k) (c .ended) (λ t. refused reply.Closed refl) s
+
+  holding-ok : (i : ℕ) (next : Result) → (entry (c .slots) i .held ≡ true → Turn c k next) → Turn c k (rules.holding c i next)
+  holding-ok i next s = split (Turn c k) (entry (c .slots) i .held) s (λ t. refused reply.NotHeld refl)
+
+-- ---- calls on a handle
+
+module _ (c : Conn) (now i : ℕ) (held : entry (c .slots) i .held ≡ true) where
+  abbrev old : Entry
+  old = entry (c .slots) i
+
+  -- the slot has what is put in it
+  at-slot : (x : Entry) → entry (withSlot c i x .slots) i ≡ x
+  at-slot x = getD-set-same (c .slots) i x vacant (in-range (c .slots) i held)
+
+  module _ (asked : ℕ) where
+    abbrev ReadOk : Result → Type 0
+    ReadOk r = Turn c (rules.read now i asked) r
+
+    read-ends : (u : Updated) (n : ℕ) (a b : Bool) →
+        ReadOk (readRest c i old u n (cond a (cond b (reading.Wait (stream.withWaits (u .stream) true (u .stream .writer))) (reading.Done (u .stream))) (reading.Done (u .stream))))
+    unfolding readRest
+    read-ends u n true true = record { waits = λ w. (ap (λ (e : Entry). e .stream .reader) (at-slot _), refl); next = inl (refl, refl) }
+    read-ends u n true false = prompt c _ _ refl refl refl
+    read-ends u n false b = prompt c _ _ refl refl refl
+
+    reads : ReadOk (readRules c i old asked now)
+    unfolding readRules readWith
+    reads =
+        let u = windowStep c old now in
+        let n = min asked (length (old .bytes)) in
+        split ReadOk (endedForReads c) (λ e. prompt c _ _ refl refl refl) (λ e. read-ends u n (eqb n 0) (canRead (u .stream .state)))
+
+  module _ (given : List ℕ) where
+    abbrev WriteOk : Result → Type 0
+    WriteOk r = Turn c (rules.write now i given) r
+
+    writes : WriteOk (writeRules c i old given)
+    unfolding writeRules writeWith
+    writes =
+        split WriteOk (c .ended) (λ e. prompt c _ _ refl refl refl) (λ e.
+        split (λ w. WriteOk (writeWith c i old given w)) (canWrite (old .stream .state))
+        (λ a.
+        split (λ w. WriteOk (writeWith c i old given w)) (eqb (old .stream .flow .«send_window») 0)
+        (λ z. record { waits = λ w. (ap (λ (x : Entry). x .stream .writer) (at-slot _), refl); next = inl (refl, refl) })
+        (λ z. prompt c _ _ refl refl refl))
+        (λ a. prompt c _ _ refl refl refl))
+
+  closes : Turn c (rules.close now i) (closeRules c i old)
+  unfolding closeRules
+  closes = prompt c _ _ refl refl refl
+
+  drops-at : (g : ℕ) (p : Place) → Turn c (rules.drop now i) (dropAt p (withGrowth c g) i)
+  unfolding dropAt
+  drops-at g nowhere = prompt c _ _ refl refl refl
+  drops-at g (at j) = prompt c _ _ refl refl refl
+
+  drops : Turn c (rules.drop now i) (dropRules c i old)
+  unfolding dropRules
+  drops = drops-at (c .growth - growthOf old) (find (c .slots) (old .stream .id))
+
+-- ---- open and tick
+
+module _ (c : Conn) (now : ℕ) where
+  abbrev OpenOk : Result → Type 0
+  OpenOk r = Turn c (rules.open-stream now) r
+
+  opens-at : c .nextId + 2 ≤ top → (p : Place) → OpenOk (openAt p c now)
+  unfolding openAt
+  opens-at t nowhere = prompt c _ _ refl refl refl
+  opens-at t (at i) = record { waits = λ q. true-not-false (ap isWait q) refl; next = inr (refl, refl, t) }
+
+  opens : OpenOk (open-rules c now)
+  unfolding open-rules
+  opens =
+      split OpenOk (leb (c .config .«max_num_streams») (listedCount (c .slots))) (λ m. prompt c _ _ refl refl refl) (λ m.
+      split OpenOk (leb 256 (unacknowledged (c .config .mode) (c .slots))) (λ u. record { waits = λ w. (refl, refl); next = inl (refl, refl) }) (λ u.
+      split OpenOk (ltb top (c .nextId + 2)) (λ n. prompt c _ _ refl refl refl) (λ n.
+      opens-at (ltb-false top (c .nextId + 2) n) (lowestFree (c .slots)))))
+
+  ticks-out : (p : NextPing) (d : Conn) → d .nextId ≡ c .nextId → Turn c (rules.tick now) (pingOut p d)
+  unfolding pingOut
+  ticks-out ask.None d n = prompt c _ _ refl refl n
+  ticks-out (ask.Ping h) d n = prompt c _ _ refl refl n
+
+  ticks : Turn c (rules.tick now) (tickRules c now)
+  unfolding tickRules
+  ticks = ticks-out (nextPing (c .pings) now .ping) (withPings c (nextPing (c .pings) now .rtt)) refl
+
+-- ---- every call
+
+module _ (c : Conn) (v : Inv c) where
+  decodes : (d : Decoded) (head body : List ℕ) (now : ℕ) → Turn c (rules.frame now head body) (onDecoded d c body now)
+  unfolding onDecoded
+  decodes found.Size head body now = prompt c _ _ refl refl refl
+  decodes (found.Version n) head body now = timed-ok c _ now _ (live-ok c _ _ (λ l. prompt c _ _ refl refl refl))
+  decodes (found.Type n) head body now = timed-ok c _ now _ (live-ok c _ _ (λ l. prompt c _ _ refl refl refl))
+  decodes (found.Header h) head body now = timed-ok c _ now _ (live-ok c _ _ (λ l. let p = headers c v l h body now in prompt c _ _ (p .prompt) refl (p .next)))
+
+  pub turns : (k : rules.Call) → Turn c k (step c k)
+  unfolding step
+  turns (rules.tick now) = timed-ok c _ now _ (live-ok c _ _ (λ l. ticks c now))
+  turns (rules.frame now head body) = decodes (decoded head) head body now
+  turns (rules.open-stream now) = timed-ok c _ now _ (live-ok c _ _ (λ l. opens c now))
+  turns (rules.read now i asked) = timed-ok c _ now _ (holding-ok c _ i _ (λ h. reads c now i h asked))
+  turns (rules.write now i given) = timed-ok c _ now _ (holding-ok c _ i _ (λ h. writes c now i h given))
+  turns (rules.close now i) = timed-ok c _ now _ (holding-ok c _ i _ (λ h. closes c now i h))
+  turns (rules.drop now i) = timed-ok c _ now _ (holding-ok c _ i _ (λ h. drops c now i h))
+  turns (rules.gone now) = timed-ok c _ now _ (live-ok c _ _ (λ l. prompt c _ _ refl refl refl))
+
+-- ---- waits
+
+pub waits-are-set : WaitsAreSet
+waits-are-set c m k = turns c (reached m) k .waits
+
+abbrev OpenWoken : Conn → Result → Type 0
+OpenWoken c r = leavesAll (r .outcome .reply) ≡ false → IsWoken (c .openWait) (r .after .openWait) (r .outcome .wakes .opener)
+
+pub acks-wake-the-open : AcksWakeTheOpen
+unfolding step onDecoded
+acks-wake-the-open c m now head body h d s e live =
+    subst (λ q. OpenWoken c (onDecoded q c body now)) (sym d)
+    (split (OpenWoken c) (ltb lastTime now)
+    (λ t n. true-not-false refl n)
+    (λ t. subst (OpenWoken c) (sym (alive c _ live)) (λ n.
+    let o = headers c (reached m) live h body now .opener n in
+    let w = acked-wakes (h .tag) c h (find (c .slots) (h .«stream_id»)) s e in
+    (o .0 ∙ w .0, o .1 ∙ w .1))))
+
+abbrev StreamWoken : Conn → Header → ℕ → Result → Type 0
+StreamWoken c h i r =
+    r .outcome .reply ≡ reply.Done →
+    Woken (wakesReader (h .tag) h) (wakesWriter (h .tag) h) (entry (c .slots) i .stream) (entry (r .after .slots) i .stream) (r .outcome .wakes .reader) (r .outcome .wakes .writer)
+
+pub taken-wakes : TakenWakes
+unfolding step onDecoded
+taken-wakes c m now i head body h d f =
+    subst (λ q. StreamWoken c h i (onDecoded q c body now)) (sym d)
+    (split (StreamWoken c h i) (ltb lastTime now) (λ t n. not-done _ refl n) (λ t.
+    split (StreamWoken c h i) (c .ended) (λ e n. not-done _ refl n) (λ live. headers c (reached m) live h body now .woken i f)))
+
+-- ---- ids
+
+-- an id that is given is the next one
+abbrev Given : Conn → ℕ → Conn → Type 0
+Given c id d = (id ≡ c .nextId) × (d .nextId ≡ c .nextId + 2) × (c .nextId + 2 ≤ top)
+
+head-is : (a b : ℕ) → a ∷ [] ≡ b ∷ [] → a ≡ b
+head-is a b e = cc
+
+given-next : (c d : Conn) (id : ℕ) → Next c (id ∷ []) d → Given c id d
+given-next c d id (inl e) = absurd (suc-ne-zero _ (ap length (e .0)))
+given-next c d id (inr e) = (head-is id (c .nextId) (e .0), e .1, e .2)
+
+pub gave : (c : Conn) → Inv c → (now id : ℕ) → let r = step c (rules.open-stream now) in Gave r id → Given c id (r .after)
+gave c v now id g =
+    let r = step c (rules.open-stream now) in
+    let is : idOf (rules.open-stream now) (r .outcome) ≡ id ∷ [] = rw (g .0, g .1) in
+    given-next c (r .after) id (subst (λ (l : List ℕ). Next c l (r .after)) is (turns c v (rules.open-stream now) .next))
+
+-- ids by 2 before ids by 2
+joined : (c d : Conn) (given rest : List ℕ) → Next c given d → rest ≡ byTwo (length rest) (d .nextId) → given ++ rest ≡ byTwo (length (given ++ rest)) (c .nextId)
+joined c d given rest (inl e) r = rw (e .0) (subst (λ n. rest ≡ byTwo (length rest) n) (e .1) r)
+joined c d given rest (inr e) r = rw (e .0) (ap {B = List ℕ} (λ l. c .nextId ∷ l) (subst (λ n. rest ≡ byTwo (length rest) n) (e .1) r))
+
+pub by-two : (c : Conn) → Inv c → (ks : List rules.Call) → ids c ks ≡ byTwo (length (ids c ks)) (c .nextId)
+by-two c v [] = refl
+by-two c v (k ∷ ks) = joined c (step c k .after) _ _ (turns c v k .next) (by-two (step c k .after) (sound c v k .inv) ks)
