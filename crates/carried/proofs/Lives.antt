@@ -1,13 +1,13 @@
 -- What lives is valid and reached, so every theorem of `demands` holds of it. Assumes nothing.
 use mathlib.Core.Path.{_≡_, refl, sym, ap, _∙_}
 use mathlib.Core.Bool.{Bool, true, false}
-use mathlib.Core.List.{List, [], _∷_}
+use mathlib.Core.List.{List, [], _∷_, _++_}
 use Prim.Native.Nat.{ℕ, _-_}
 use native.Mathlib.Omega.{arith}
-use lib.ListN.{length}
+use lib.ListN.{length, take, drop}
 use Rattle.rules.specs.Settings.{checked}
 use Rattle.rules.specs.State.{Conn}
-use Rattle.rules.specs.Step.{Call, step, run, frame}
+use Rattle.rules.specs.Step.{Call, step, run, frame, read}
 use Rattle.rules.specs.declared.Settings.{Settings}
 use Rattle.rules.specs.declared.Checked.{Checked}
 use Rattle.rules.specs.declared.Checked.the-variants as settings
@@ -24,8 +24,8 @@ use Rattle.demands.specs.Demands.{Reach}
 use Rattle.demands.specs.Demands as reach
 use Rattle.demands.specs.History.{Heard, Story}
 use Rattle.demands.specs.History as story
-use Rattle.demands.proofs.Theorems.{growth-is-a-sum, growth-is-within, windows-are-within, unread-is-the-rest, room-for-m}
-use Rattle.carried.specs.Lives.{Lives, made, then, unsized, ran, unran, heardOver, Growth, Unread, Room}
+use Rattle.demands.proofs.Theorems.{growth-is-a-sum, growth-is-within, windows-are-within, unread-is-the-rest, reads-give-the-next, room-for-m}
+use Rattle.carried.specs.Lives.{Lives, made, then, unsized, ran, unran, heardOver, Growth, Unread, Given, Room}
 
 -- valid, and the rules' state has this history
 pub record Holds (c : Connection) (t l p : List ℕ) (h : ℕ → Heard) : Type 0 where
@@ -84,6 +84,14 @@ growth c t l p h a =
 pub unread : Unread
 unread c t l p h a i held =
     (unread-is-the-rest (absOf c t l p) h (lives a .told) i, windows-are-within (absOf c t l p) (reached a) i held .0)
+
+pub given : Given
+given c t l p h a time i out sent d t′ l′ p′ out′ sent′ promised outputs =
+    let f : Follows c t l p (step (absOf c t l p) (read time i (length out))) d t′ l′ p′ = promised .steps refl (lives a .valid) in
+    let bytes = step (absOf c t l p) (read time i (length out)) .outcome .bytes in
+    outputs .bytes refl (lives a .valid)
+    ∙ ap (λ (b : List ℕ). b ++ drop (length bytes) out) (reads-give-the-next (absOf c t l p) h (lives a .told) time i (length out))
+    ∙ ap (λ (n : ℕ). take n (drop (length (h i .given)) (h i .taken)) ++ drop n out) (sym (f .read))
 
 pub room : Room
 room c t l p h a large time head body few d t′ l′ p′ promised full =

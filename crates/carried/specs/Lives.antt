@@ -2,12 +2,12 @@
 use mathlib.Core.Path.{_≡_}
 use mathlib.Core.Logic.{_≢_}
 use mathlib.Core.Bool.{true, false}
-use mathlib.Core.List.{List, [], _∷_}
+use mathlib.Core.List.{List, [], _∷_, _++_}
 use Prim.Native.Nat.{ℕ, _+_, _-_, _*_, _≤_}
-use lib.ListN.{length, drop}
+use lib.ListN.{length, take, drop}
 use Rattle.frame.specs.Header.{initialWindow}
 use Rattle.rules.specs.State.{Entry, Conn, entry, one}
-use Rattle.rules.specs.Step.{Call, step, frame}
+use Rattle.rules.specs.Step.{Call, step, frame, read}
 use Rattle.rules.specs.declared.Settings.{Settings}
 use Rattle.rules.specs.declared.Reply.the-variants as reply
 use Rattle.memory.specs.Slots.{slotsOf}
@@ -15,6 +15,7 @@ use Rattle.connection.specs.Abstract.{absOf}
 use Rattle.connection.specs.Promises.{Promised}
 use Rattle.connection.specs.declared.Connection.{Connection}
 use Rattle.connection.specs.declared.Done.{Done}
+use Rattle.reading.specs.Promises.{Outputs}
 use Rattle.opening.specs.Start.{Creates}
 use Rattle.opening.specs.declared.Created.the-variants.{Made}
 use Rattle.trace.specs.Runs.{reads}
@@ -65,6 +66,14 @@ Unread =
     (c : Connection) (t l p : List ℕ) (h : ℕ → Heard) → Lives c t l p h → (i : ℕ) → slotAt c t l p i .held ≡ true →
     (slotAt c t l p i .bytes ≡ drop (length (h i .given)) (h i .taken))
     × (length (slotAt c t l p i .bytes) + slotAt c t l p i .stream .flow .«receive_window» ≤ slotAt c t l p i .stream .flow .«max_receive_window»)
+
+-- "less those read": the bytes that a read puts into lent output are the next of those accepted, and the rest of it is as it was
+abbrev pub Given : Type 0
+Given =
+    (c : Connection) (t l p : List ℕ) (h : ℕ → Heard) → Lives c t l p h →
+    (time i : ℕ) (out sent : List ℕ) (d : Done) (t′ l′ p′ out′ sent′ : List ℕ) → Promised true c t l p (read time i (length out)) d t′ l′ p′ →
+    Outputs true c t l p time i out sent d out′ sent′ →
+    out′ ≡ take (d .read) (drop (length (h i .given)) (h i .taken)) ++ drop (d .read) out
 
 -- "with a pool as large as the limit, and no more handles held (counting one that the frame would open) than M, no frame is
 -- refused for room"
