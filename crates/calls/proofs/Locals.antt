@@ -21,15 +21,15 @@ use Rattle.handlers.proofs.Locals.{tick-performs}
 use Rattle.memory.specs.Moves as memory
 use Rattle.memory.specs.Slots.{slotsOf}
 use Rattle.memory.specs.declared.Memory.{Memory}
-use Rattle.memory.proofs.Starts.{nothing-advances}
 use Rattle.connection.specs.Abstract.{absOf, Valid}
+use Rattle.connection.specs.Parts.{withMemory, pinged}
 use Rattle.connection.specs.Promises.{gateOf, Follows}
 use Rattle.connection.specs.declared.Connection.{Connection}
 use Rattle.connection.specs.declared.Done.{Done}
 use Rattle.connection.specs.declared.Gate.the-variants as gate
+use Rattle.connection.proofs.Promises.{answer-follows}
 use Rattle.connection.proofs.Tests.{gate-shut, gate-open}
 use Rattle.connection.proofs.Ids.{below-replaced}
-use Rattle.calls.specs.Parts.{pinged}
 
 -- ---- peer gone
 
@@ -63,31 +63,15 @@ tick-done r now = go (nextPing r now .ping)
 
 module _ (c : Connection) (t l p : List ℕ) (v : Valid c t l p) where
   pub tick-follows : (now : ℕ) → Follows c t l p (tickRules (absOf c t l p) now) (pinged c (onTick (c .rtt) now)) t l p
-  tick-follows now = rw (tick-performs (absOf c t l p) now) (record {
-    valid = record { memory = v .memory; slots = v .slots; pool = v .pool; fresh = record { parity = v .fresh .parity; below = v .fresh .below } };
-    after = refl;
-    advances = nothing-advances (c .memory) t l p (v .memory);
-    says = record { reply = refl; slot = refl; value = refl; sent = refl; wakes = refl };
-    read = refl;
-  })
+  tick-follows now =
+      let q = onTick (c .rtt) now in
+      rw (tick-performs (absOf c t l p) now) (answer-follows c t l p (q .rtt) (c .«open_wait») (q .answer) v)
 
 -- ---- a stream put back
 
 -- the answer of a call that leaves the memory m
 abbrev pub keptDone : Connection → Memory → Answer → Done
-keptDone c m a = record {
-  connection = record {
-    config = c .config;
-    rtt = c .rtt;
-    ended = c .ended;
-    «next_id» = c .«next_id»;
-    «open_wait» = c .«open_wait»;
-    growth = c .growth;
-    memory = m;
-  };
-  answer = a;
-  read = 0;
-}
+keptDone c m a = record { connection = withMemory c m; answer = a; read = 0 }
 
 module _ (c : Connection) (t l p : List ℕ) (v : Valid c t l p) (i : ℕ) (s : Stream) (listed : Bool) (a : Answer) (m : Memory) (t′ : List ℕ) where
   pub keep-follows : memory.Follows (entry (slotsOf (c .memory) t l p) i) s listed

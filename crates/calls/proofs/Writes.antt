@@ -29,11 +29,13 @@ use Rattle.connection.specs.Abstract.{absOf, Valid}
 use Rattle.connection.specs.Promises.{Follows, Promised, Gives}
 use Rattle.connection.specs.declared.Connection.{Connection}
 use Rattle.connection.specs.declared.Done.{Done}
-use Rattle.calls.specs.declared.Handle.the-variants.{Held, Refused}
+use Rattle.connection.specs.Parts.{handleOf}
+use Rattle.connection.specs.declared.Handle.the-variants.{Held, Refused}
 use Rattle.calls.specs.Given.{Carries}
-use Rattle.calls.specs.Parts.{handleOf, Keeps, Acts}
+use Rattle.calls.specs.Parts.{Keeps, Acts}
 use Rattle.connection.proofs.Promises.{refusing, following}
-use Rattle.calls.proofs.Handles.{store-performs, handle-refused, handle-held, at-row, row-follows}
+use Rattle.connection.proofs.Tests.{is-held, handle-refused, handle-held}
+use Rattle.calls.proofs.Handles.{store-performs, at-row, row-follows}
 
 -- ---- the body
 
@@ -110,9 +112,10 @@ module _ (c : Connection) (t l p : List ℕ) (i now : ℕ) (given : List ℕ) wh
     on-row : Valid c t l p → step a (write now i given) ≡ result (row .stream) (row .listed)
     unfolding step
     on-row v =
-        let h = handle-held c t l p v i now (writeRules a i (entry (a .slots) i) given) row e in
+        let h = is-held (c .memory .slots) t i now row e in
         let q = at-row c t l p v i now row e (h .0) (h .1) (h .2) in
-        h .3 ∙ write-performs a i (ap (λ (x : Entry). x .held) q) given ∙ ap (λ (x : Entry). result (x .stream) (x .listed)) q
+        handle-held c t l p v i now (writeRules a i (entry (a .slots) i) given) row e
+        ∙ write-performs a i (ap (λ (x : Entry). x .held) q) given ∙ ap (λ (x : Entry). result (x .stream) (x .listed)) q
 
     module _ (b : Bool) (w : Written) (ended : c .ended ≡ b) (wrote : stream.write (row .stream) (length given) (c .config .split) ≡ w) where
       on-decided : Valid c t l p → step a (write now i given) ≡ carrying given (perform a a [] (decided i row b w))

@@ -1,11 +1,9 @@
 -- What the parts of the calls do.
 use mathlib.Core.Path.{_≡_}
-use mathlib.Core.Bool.{Bool, cond}
+use mathlib.Core.Bool.{Bool}
 use mathlib.Core.List.{List}
 use Prim.Native.Nat.{ℕ, _<_}
-use lib.Dec.{ltb, leb}
 use Rattle.stream.specs.declared.Stream.{Stream}
-use Rattle.rules.specs.Settings.{lastTime}
 use Rattle.rules.specs.State.{entry, withSlot}
 use Rattle.rules.specs.Ending.{gives}
 use Rattle.rules.specs.declared.Reply.the-variants as reply
@@ -15,38 +13,12 @@ use Rattle.handlers.specs.Perform.{outcomeOf}
 use Rattle.handlers.specs.declared.Action.{Action}
 use Rattle.handlers.specs.declared.Action.the-variants as action
 use Rattle.handlers.specs.declared.Answer.{Answer}
-use Rattle.handlers.specs.declared.Pong.{Pong}
 use Rattle.memory.specs.Slots.{slotsOf}
 use Rattle.memory.specs.Moves as memory
 use Rattle.connection.specs.Abstract.{absOf, Valid}
 use Rattle.connection.specs.Promises.{refused, sentAfter, Follows}
 use Rattle.connection.specs.declared.Connection.{Connection}
 use Rattle.connection.specs.declared.Done.{Done}
-use Rattle.calls.specs.declared.Handle.{Handle}
-use Rattle.calls.specs.declared.Handle.the-variants.{Held, Refused}
-
--- the pings after a tick, and what it answers
-abbrev pub pinged : Connection → Pong → Done
-pinged c q = record {
-  connection = record {
-    config = c .config;
-    rtt = q .rtt;
-    ended = c .ended;
-    «next_id» = c .«next_id»;
-    «open_wait» = c .«open_wait»;
-    growth = c .growth;
-    memory = c .memory;
-  };
-  answer = q .answer;
-  read = 0;
-}
-
--- 01: "Others: 10, 9, then the rules"
-abbrev pub handleOf : ℕ → List ℕ → ℕ → ℕ → Handle
-handleOf k t i now =
-    cond (ltb lastTime now)
-    (Refused reply.Time)
-    (cond (leb k i) (Refused reply.NotHeld) (cond (rowAt t k i .held) (Held (rowAt t k i)) (Refused reply.NotHeld)))
 
 -- the stream s at slot i, in the table or not, and the answer a
 pub record Keeps (c : Connection) (t : List ℕ) (i : ℕ) (row : Row) (s : Stream) (listed : Bool) (a : Answer) (d : Done) (t′ : List ℕ) : Type 0 where

@@ -1,29 +1,25 @@
-// The calls of a connection but for frames: each is the rules' step of document 01.
+// Write, close, tick and peer gone: each is the rules' step of document 01.
 ghost use mathlib.Core.Path.{_≡_};
 ghost use mathlib.Core.List.{List};
 ghost use Prim.Native.Nat.{ℕ};
 ghost use lib.ListN.{length};
 ghost use Rattle.rules.specs.Step.{gone, tick, write, close};
 ghost use Rattle.handlers.specs.Locals.{onTick};
+ghost use Rattle.connection.specs.Parts.{pinged};
 ghost use Rattle.connection.specs.Promises.{Promised, Gives, sentAfter};
 ghost use Rattle.calls.specs.Given.{tableSized, sentSized, Carries};
-ghost use Rattle.calls.specs.Parts.{pinged, handleOf, Keeps, Acts};
+ghost use Rattle.calls.specs.Parts.{Keeps, Acts};
 use connection::Connection;
 use connection::Done;
 use connection::Gate;
+use connection::Handle;
+use frame::header::HEADER_SIZE;
 use handlers::Action;
 use handlers::Answer;
-use rules::LAST_TIME;
 use rules::Reply;
 use rules::Slot;
 use stream::Stream;
 use table::row::Row;
-
-// What a handle stands for: a held slot's row, or why there is none.
-enum Handle {
-    Held(Row),
-    Refused(Reply),
-}
 
 // Whether a table of this length has its size.
 fn table_sized(c: Connection, len: usize) -> bool
@@ -39,27 +35,9 @@ fn sent_sized(c: Connection, len: usize, sent_len: usize) -> bool
     ensures { λ r. ⌜ r ≡ sentSized c len «sent_len» ⌝ }
 {
     if table_sized(c, len) {
-        return sent_len == 12;
+        return sent_len == HEADER_SIZE;
     }
     false
-}
-
-// The row of a handle that is held, for a call in time.
-fn held_row(k: u32, table: &[u64], slot: Slot, time: u64) -> Handle
-    ensures { λ r. ⌜ r ≡ handleOf k (now (table .entry)) (slot .0) time ⌝ }
-{
-    if LAST_TIME < time {
-        return Handle::Refused(Reply::Time);
-    }
-    let i = slot.0;
-    if k <= i {
-        return Handle::Refused(Reply::NotHeld);
-    }
-    let row = table::load(table, k, slot);
-    if row.held {
-        return Handle::Held(row);
-    }
-    Handle::Refused(Reply::NotHeld)
 }
 
 // Puts the stream at its slot, and gives the answer.
@@ -74,19 +52,10 @@ fn keep(
 ) -> Done
     ensures { λ r. ⌜ Keeps c (now (table .entry)) (slot .0) row stream listed answer r (now (table .exit)) ⌝ }
 {
-    let config = c.config;
-    let rtt = c.rtt;
     let memory = c.memory.store(table, slot, row, stream, listed);
+    let connection = c.with_memory(memory);
     Done {
-        connection: Connection {
-            config,
-            rtt,
-            ended: c.ended,
-            next_id: c.next_id,
-            open_wait: c.open_wait,
-            growth: c.growth,
-            memory,
-        },
+        connection,
         answer,
         read: 0,
     }
@@ -114,24 +83,13 @@ fn ping(c: Connection, sent: &mut [u8], time: u64) -> Done
     ensures { λ r. ⌜ r ≡ pinged c (onTick (c .rtt) time) ⌝ }
     ensures { λ r. ⌜ now (sent .exit) ≡ sentAfter (onTick (c .rtt) time .answer .sent) (now (sent .entry)) ⌝ }
 {
-    let config = c.config;
-    let rtt = c.rtt;
-    let memory = c.memory;
-    let pong = handlers::calls::on_tick(rtt, time);
-    let after = pong.rtt;
+    let pong = handlers::calls::on_tick(c.rtt, time);
     let answer = pong.answer;
     let header = answer.sent;
     connection::put(sent, header);
+    let connection = c.with_rtt(pong.rtt);
     Done {
-        connection: Connection {
-            config,
-            rtt: after,
-            ended: c.ended,
-            next_id: c.next_id,
-            open_wait: c.open_wait,
-            growth: c.growth,
-            memory,
-        },
+        connection,
         answer,
         read: 0,
     }
@@ -155,7 +113,7 @@ pub fn write(
         return connection::refuse(c, Reply::Size);
     }
     let memory = c.memory;
-    let found = held_row(memory.slots, &table[..], slot, time);
+    let found = connection::held_row(memory.slots, &table[..], slot, time);
     match found {
         Handle::Refused(reply) => connection::refuse(c, reply),
         Handle::Held(row) => {
@@ -185,7 +143,7 @@ pub fn close(c: Connection, table: &mut [u64], sent: &mut [u8], slot: Slot, time
         return connection::refuse(c, Reply::Size);
     }
     let memory = c.memory;
-    let found = held_row(memory.slots, &table[..], slot, time);
+    let found = connection::held_row(memory.slots, &table[..], slot, time);
     match found {
         Handle::Refused(reply) => connection::refuse(c, reply),
         Handle::Held(row) => {

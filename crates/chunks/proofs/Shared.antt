@@ -8,7 +8,7 @@ use lib.ListN.{length, getD, take, drop, set, length-set, take-append-drop}
 use lib.Seq.{getD-set-same, getD-set-other, set-set}
 use Rattle.chunks.specs.Blocks.{BLOCK, blocksFor}
 use Rattle.chunks.specs.Store.{state, content, none, Kept, Pushes, Pops, Discards, Started}
-use Rattle.chunks.specs.Many.{sizes, unreads, nth, contents, lengths, Shared, Turned}
+use Rattle.chunks.specs.Many.{sizes, unreads, nth, contents, Shared, Turned}
 use Rattle.chunks.specs.declared.Free.{Free}
 use Rattle.chunks.specs.declared.Queue.{Queue}
 use Rattle.chunks.specs.declared.Pushed.{Pushed}
@@ -32,19 +32,12 @@ contents-nth l p [] k = refl
 contents-nth l p (q ∷ qs) zero = refl
 contents-nth l p (q ∷ qs) (suc k) = contents-nth l p qs k
 
-lengths-of : (l p : List ℕ) (qs : List Queue) → ((k : ℕ) → k < length qs → length (content l p (nth qs k)) ≡ nth qs k .unread) → lengths (contents l p qs) ≡ unreads qs
-lengths-of l p [] h = refl
-lengths-of l p (q ∷ qs) h = omega (arith, h 0 (omega arith), lengths-of l p qs (λ k b. h (suc k) (omega arith)))
-
 -- ---- a call on one queue
 
 module _ (K P : ℕ) (l p : List ℕ) (f : Free) (qs : List Queue) (s : Shared K P l p f qs) where
   -- each queue has as many bytes as it says
   pub content-sized : (k : ℕ) → k < length qs → length (content l p (nth qs k)) ≡ nth qs k .unread
   content-sized k here = content-length l p f (nth qs k) (good-of l p f qs (s .sound) k here)
-
-  pub unreads-sized : lengths (contents l p qs) ≡ unreads qs
-  unreads-sized = lengths-of l p qs content-sized
 
   module _ (k : ℕ) (slot : k < K) where
     here : k < length qs

@@ -24,6 +24,6 @@ abbrev pub bytes : List ℕ → List ℕ → List ℕ
 bytes p [] = []
 bytes p (i ∷ is) = block p i ++ bytes p is
 
--- the pool with the bytes b put at `at`
+-- the list with b in place of as many elements from `at` on: a pool's bytes, or a table's cells
 abbrev pub put : List ℕ → ℕ → List ℕ → List ℕ
 put p at b = take at p ++ (b ++ drop (at + length b) p)

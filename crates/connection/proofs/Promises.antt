@@ -3,14 +3,19 @@ use mathlib.Core.Path.{_≡_, refl, sym, _∙_}
 use mathlib.Core.Bool.{Bool, true, false}
 use mathlib.Core.List.{List}
 use Prim.Native.Nat.{ℕ}
-use Rattle.rules.specs.Ending.{refuse}
+use Rattle.rtt.specs.declared.Rtt.{Rtt}
+use Rattle.rules.specs.State.{withPings, withOpenWait}
+use Rattle.rules.specs.Ending.{refuse, gives}
 use Rattle.rules.specs.Replies.{leavesAll, mayGive}
 use Rattle.rules.specs.Step.{Call, step}
 use Rattle.rules.specs.declared.Reply.{Reply}
 use Rattle.rules.specs.declared.Reply.the-variants as reply
+use Rattle.handlers.specs.Perform.{outcomeOf}
+use Rattle.handlers.specs.declared.Answer.{Answer}
 use Rattle.memory.proofs.Laws.{never}
 use Rattle.memory.proofs.Starts.{nothing-advances}
 use Rattle.connection.specs.Abstract.{absOf, Valid}
+use Rattle.connection.specs.Parts.{withRtt, withOpens}
 use Rattle.connection.specs.Promises.{refused, Gives, Follows, Promised}
 use Rattle.connection.specs.declared.Connection.{Connection}
 use Rattle.connection.specs.declared.Done.{Done}
@@ -41,6 +46,17 @@ module _ (c : Connection) (t l p : List ℕ) where
   pub refuse-follows : (r : Reply) → Valid c t l p → Follows c t l p (refuse (absOf c t l p) r) (refused c r) t l p
   refuse-follows r v = record {
     valid = v;
+    after = refl;
+    advances = nothing-advances (c .memory) t l p (v .memory);
+    says = record { reply = refl; slot = refl; value = refl; sent = refl; wakes = refl };
+    read = refl;
+  }
+
+  -- an answer that leaves memory as it was: the pings and the open wait alone may change
+  pub answer-follows : (r : Rtt) (wait : Bool) (a : Answer) → Valid c t l p
+      → Follows c t l p (gives (outcomeOf a) (withOpenWait (withPings (absOf c t l p) r) wait)) (record { connection = withOpens (withRtt c r) (c .«next_id») wait; answer = a; read = 0 }) t l p
+  answer-follows r wait a v = record {
+    valid = record { memory = v .memory; slots = v .slots; pool = v .pool; fresh = record { parity = v .fresh .parity; below = v .fresh .below } };
     after = refl;
     advances = nothing-advances (c .memory) t l p (v .memory);
     says = record { reply = refl; slot = refl; value = refl; sent = refl; wakes = refl };

@@ -2,8 +2,10 @@
 use mathlib.Core.Path.{_≡_, refl, ap, _∙_}
 use mathlib.Core.Bool.{Bool, true, false, cond}
 use mathlib.Core.List.{List}
-use Prim.Native.Nat.{ℕ, _≤_, _<_}
-use lib.Dec.{ltb}
+use Prim.Native.Nat.{ℕ, _<_}
+use native.Mathlib.Omega.{arith}
+use borrow.Author.Tests.{leb-true, leb-false}
+use lib.Dec.{ltb, leb}
 use Rattle.rules.specs.Settings.{lastTime}
 use Rattle.rules.specs.Lists.{Place, at, nowhere}
 use Rattle.rules.specs.State.{Entry, Conn, entry, lowestFree}
@@ -12,13 +14,16 @@ use Rattle.rules.specs.Ending.{Result, refuse}
 use Rattle.rules.specs.declared.Reply.{Reply}
 use Rattle.rules.specs.declared.Reply.the-variants as reply
 use Rattle.table.specs.Table.{rowAt, foundOf}
+use Rattle.table.specs.declared.row.Row.{Row}
 use Rattle.handlers.specs.Perform.{vacancyOf}
 use Rattle.memory.specs.Slots.{slotsOf}
 use Rattle.memory.proofs.Laws.{entry-held, entry-beyond, free-slots}
 use Rattle.connection.specs.Abstract.{absOf, Valid}
+use Rattle.connection.specs.Parts.{handleOf}
 use Rattle.connection.specs.Promises.{gateOf, vacant, vacancyIn}
 use Rattle.connection.specs.declared.Connection.{Connection}
 use Rattle.connection.specs.declared.Gate.the-variants as gate
+use Rattle.connection.specs.declared.Handle.the-variants.{Held, Refused}
 
 -- ---- the gate, of a call that an ended connection refuses (`ended` is the connection's), or does not (`ended` is false)
 
@@ -43,19 +48,50 @@ module _ (c : Conn) (ended : Bool) (now : ℕ) (next : Result) where
 
 -- ---- the handle
 
-module _ (c : Connection) (t l p : List ℕ) (v : Valid c t l p) (i : ℕ) (next : Result) where
-  by-held : (b : Bool) → entry (slotsOf (c .memory) t l p) i .held ≡ b
-      → holding (absOf c t l p) i next ≡ cond b next (refuse (absOf c t l p) reply.NotHeld)
-  by-held b e = rw e
+-- a handle that is held: its slot is one of the K, and the row is what it holds
+pub is-held : (k : ℕ) (t : List ℕ) (i now : ℕ) (row : Row) → handleOf k t i now ≡ Held row → (i < k) × (row ≡ rowAt t k i) × (rowAt t k i .held ≡ true)
+is-held k t i now row e = go (ltb lastTime now) (leb k i) (rowAt t k i .held) refl refl e
+  where
+    go : (x y h : Bool) → leb k i ≡ y → rowAt t k i .held ≡ h
+        → cond x (Refused reply.Time) (cond y (Refused reply.NotHeld) (cond h (Held (rowAt t k i)) (Refused reply.NotHeld))) ≡ Held row
+        → (i < k) × (row ≡ rowAt t k i) × (rowAt t k i .held ≡ true)
+    go true y h ye he q = absurd (let z : _≡_ {A = ℕ} 0 1 = cc in omega arith)
+    go false true h ye he q = absurd (let z : _≡_ {A = ℕ} 0 1 = cc in omega arith)
+    go false false true ye he q = (leb-false _ _ ye, cc, he)
+    go false false false ye he q = absurd (let z : _≡_ {A = ℕ} 0 1 = cc in omega arith)
 
-  pub holding-beyond : c .memory .slots ≤ i → holding (absOf c t l p) i next ≡ refuse (absOf c t l p) reply.NotHeld
-  holding-beyond h = by-held false (ap (λ (e : Entry). e .held) (entry-beyond (c .memory) t l p (v .memory) i h))
+module _ (c : Connection) (t l p : List ℕ) (v : Valid c t l p) (i now : ℕ) (next : Result) where
+  abbrev a : Conn
+  a = absOf c t l p
 
-  pub holding-free : i < c .memory .slots → rowAt t (c .memory .slots) i .held ≡ false → holding (absOf c t l p) i next ≡ refuse (absOf c t l p) reply.NotHeld
-  holding-free h e = by-held false (entry-held (c .memory) t l p (v .memory) i h ∙ e)
+  abbrev k : ℕ
+  k = c .memory .slots
 
-  pub holding-held : i < c .memory .slots → rowAt t (c .memory .slots) i .held ≡ true → holding (absOf c t l p) i next ≡ next
-  holding-held h e = by-held true (entry-held (c .memory) t l p (v .memory) i h ∙ e)
+  held-is : (b : Bool) → leb k i ≡ b → entry (slotsOf (c .memory) t l p) i .held ≡ cond b false (rowAt t k i .held)
+  held-is true e = ap (λ (x : Entry). x .held) (entry-beyond (c .memory) t l p (v .memory) i (leb-true _ _ e))
+  held-is false e = entry-held (c .memory) t l p (v .memory) i (leb-false _ _ e)
+
+  pub handle-refused : (r : Reply) → handleOf k t i now ≡ Refused r → timed a now (holding a i next) ≡ refuse a r
+  handle-refused r e = rw (held-is _ refl) (go (ltb lastTime now) (leb k i) (rowAt t k i .held) e)
+    where
+      go : (x y h : Bool)
+          → cond x (Refused reply.Time) (cond y (Refused reply.NotHeld) (cond h (Held (rowAt t k i)) (Refused reply.NotHeld))) ≡ Refused r
+          → cond x (refuse a reply.Time) (cond (cond y false h) next (refuse a reply.NotHeld)) ≡ refuse a r
+      go true y h q = let z : reply.Time ≡ r = cc in rw z
+      go false true h q = let z : reply.NotHeld ≡ r = cc in rw z
+      go false false true q = cc
+      go false false false q = let z : reply.NotHeld ≡ r = cc in rw z
+
+  pub handle-held : (row : Row) → handleOf k t i now ≡ Held row → timed a now (holding a i next) ≡ next
+  handle-held row e = rw (held-is _ refl) (go (ltb lastTime now) (leb k i) (rowAt t k i .held) e)
+    where
+      go : (x y h : Bool)
+          → cond x (Refused reply.Time) (cond y (Refused reply.NotHeld) (cond h (Held (rowAt t k i)) (Refused reply.NotHeld))) ≡ Held row
+          → cond x (refuse a reply.Time) (cond (cond y false h) next (refuse a reply.NotHeld)) ≡ next
+      go true y h q = absurd (let z : _≡_ {A = ℕ} 0 1 = cc in omega arith)
+      go false true h q = absurd (let z : _≡_ {A = ℕ} 0 1 = cc in omega arith)
+      go false false true q = refl
+      go false false false q = absurd (let z : _≡_ {A = ℕ} 0 1 = cc in omega arith)
 
 -- ---- the lowest free slot
 

@@ -1,5 +1,6 @@
 // The connection: what it holds, and what its calls share. The calls themselves stand in the crates above.
 ghost use mathlib.Core.Path.{_≡_};
+ghost use Rattle.connection.specs.Parts.{withMemory, withGrowth, withRtt, withOpens, handleOf};
 ghost use Rattle.connection.specs.Promises.{bareAnswer, refused, gateOf, vacancyIn, sentAfter, Over};
 use frame::header;
 use handlers::Answer;
@@ -9,11 +10,13 @@ use rtt::Rtt;
 use rules::Config;
 use rules::LAST_TIME;
 use rules::Reply;
+use rules::Slot;
 use rules::Value;
 use rules::Which;
 use rules::Woke;
 use stream::Sent;
 use table::Found;
+use table::row::Row;
 
 pub struct Connection {
     pub config: Config,
@@ -36,6 +39,84 @@ pub struct Done {
 pub enum Gate {
     Open,
     Shut(Reply),
+}
+
+// What a handle stands for: a held slot's row, or why there is none.
+pub enum Handle {
+    Held(Row),
+    Refused(Reply),
+}
+
+impl Connection {
+    // The same connection with other memory.
+    pub fn with_memory(self, memory: Memory) -> Connection
+        ensures { λ r. ⌜ r ≡ withMemory self memory ⌝ }
+    {
+        let config = self.config;
+        let rtt = self.rtt;
+        Connection {
+            config,
+            rtt,
+            ended: self.ended,
+            next_id: self.next_id,
+            open_wait: self.open_wait,
+            growth: self.growth,
+            memory,
+        }
+    }
+
+    // The same connection with another growth figure.
+    pub fn with_growth(self, growth: u64) -> Connection
+        ensures { λ r. ⌜ r ≡ withGrowth self growth ⌝ }
+    {
+        let config = self.config;
+        let rtt = self.rtt;
+        let memory = self.memory;
+        Connection {
+            config,
+            rtt,
+            ended: self.ended,
+            next_id: self.next_id,
+            open_wait: self.open_wait,
+            growth,
+            memory,
+        }
+    }
+
+    // The same connection with other pings.
+    pub fn with_rtt(self, rtt: Rtt) -> Connection
+        ensures { λ r. ⌜ r ≡ withRtt self rtt ⌝ }
+    {
+        let config = self.config;
+        let memory = self.memory;
+        Connection {
+            config,
+            rtt,
+            ended: self.ended,
+            next_id: self.next_id,
+            open_wait: self.open_wait,
+            growth: self.growth,
+            memory,
+        }
+    }
+
+    // The same connection with another next id and open wait.
+    pub fn with_opens(self, next_id: u32, open_wait: bool) -> Connection
+        ensures { λ r. ⌜ r ≡ withOpens self «next_id» «open_wait» ⌝ }
+    {
+        let config = self.config;
+        let rtt = self.rtt;
+        let memory = self.memory;
+        Connection {
+            config,
+            rtt,
+            ended: self.ended,
+            next_id,
+            open_wait,
+            growth: self.growth,
+            memory,
+        }
+    }
 }
 
 // An answer of the reply alone; `all` says that the connection ended by it.
@@ -79,6 +160,24 @@ pub fn judge(ended: bool, now: u64) -> Gate
         return Gate::Shut(Reply::Closed);
     }
     Gate::Open
+}
+
+// The row of a handle that is held, for a call in time.
+pub fn held_row(k: u32, table: &[u64], slot: Slot, time: u64) -> Handle
+    ensures { λ r. ⌜ r ≡ handleOf k (now (table .entry)) (slot .0) time ⌝ }
+{
+    if LAST_TIME < time {
+        return Handle::Refused(Reply::Time);
+    }
+    let i = slot.0;
+    if k <= i {
+        return Handle::Refused(Reply::NotHeld);
+    }
+    let row = table::load(table, k, slot);
+    if row.held {
+        return Handle::Held(row);
+    }
+    Handle::Refused(Reply::NotHeld)
 }
 
 // The lowest free slot.

@@ -4,11 +4,9 @@ use mathlib.Core.Logic.{_≢_}
 use mathlib.Core.Bool.{Bool, true, false}
 use mathlib.Core.List.{List}
 use Prim.Native.Nat.{ℕ, _<_}
-use Rattle.stream.specs.declared.Sent.the-variants.{Nothing}
 use Rattle.stream.specs.declared.Stream.{Stream}
 use Rattle.rules.specs.State.{entry}
 use Rattle.rules.specs.Calls.{dropRules}
-use Rattle.rules.specs.Step.{holding}
 use Rattle.rules.specs.declared.Slot.{Slot}
 use Rattle.rules.specs.declared.Reply.the-variants as reply
 use Rattle.table.specs.Rows.{blank}
@@ -25,27 +23,15 @@ use Rattle.handlers.specs.declared.Known.the-variants as known
 use Rattle.memory.specs.Moves.{Stores}
 use Rattle.memory.specs.declared.Memory.{Memory}
 use Rattle.connection.specs.Abstract.{absOf, Valid}
+use Rattle.connection.specs.Parts.{withMemory, withGrowth}
 use Rattle.connection.specs.Promises.{bareAnswer, Follows}
-use Rattle.rules.specs.Replies.{leavesAll, mayGive}
 use Rattle.connection.specs.declared.Connection.{Connection}
 use Rattle.connection.specs.declared.Done.{Done}
 use Rattle.dropping.specs.declared.Removed.{Removed}
 
 -- the connection with this growth and this memory, and the answer
 abbrev pub released : Connection → ℕ → Memory → Answer → Done
-released c g m o = record {
-  connection = record {
-    config = c .config;
-    rtt = c .rtt;
-    ended = c .ended;
-    «next_id» = c .«next_id»;
-    «open_wait» = c .«open_wait»;
-    growth = g;
-    memory = m;
-  };
-  answer = o;
-  read = 0;
-}
+released c g m o = record { connection = withMemory (withGrowth c g) m; answer = o; read = 0 }
 
 -- the stream s at slot j; at the handle's own slot i nothing is put, since it is freed next
 pub record Puts (m : Memory) (t : List ℕ) (i j : Slot) (row : Row) (s : Stream) (listed : Bool) (m′ : Memory) (t′ : List ℕ) : Type 0 where
@@ -82,10 +68,3 @@ pub record Releases (c : Connection) (t l : List ℕ) (i : Slot) (row : Row) (d 
   pub done : d .answer .reply ≡ reply.Done
   pub follows : (p : List ℕ) → row ≡ rowAt t (c .memory .slots) (i .0) → Valid c t l p → i .0 < c .memory .slots → row .held ≡ true
       → Follows c t l p (dropRules (absOf c t l p) (i .0) (entry (absOf c t l p .slots) (i .0))) d t′ l′ p
-
--- "9, then the rules": a refusal leaves all as it was, and gives no header
-pub record Drops (c : Connection) (t l : List ℕ) (i : Slot) (d : Done) (t′ l′ : List ℕ) : Type 0 where
-  pub steps : (p : List ℕ) → Valid c t l p
-      → Follows c t l p (holding (absOf c t l p) (i .0) (dropRules (absOf c t l p) (i .0) (entry (absOf c t l p .slots) (i .0)))) d t′ l′ p
-  pub refuses : leavesAll (d .answer .reply) ≡ true → (d .connection ≡ c) × (t′ ≡ t) × (l′ ≡ l)
-  pub only : mayGive (d .answer .reply) ≡ false → (d .answer .sent ≡ Nothing) × (d .read ≡ 0)

@@ -6,15 +6,16 @@ ghost use lib.ListN.{length};
 ghost use Rattle.rules.specs.Step.{drop};
 ghost use Rattle.connection.specs.Promises.{Promised, Gives};
 ghost use Rattle.dropping.specs.Given.{sized};
-ghost use Rattle.dropping.specs.Parts.{released, Puts, Takes, Removes, Releases, Drops};
+ghost use Rattle.dropping.specs.Parts.{released, Puts, Takes, Removes, Releases};
 use connection::Connection;
 use connection::Done;
+use connection::Handle;
+use frame::header::HEADER_SIZE;
 use handlers::Action;
 use handlers::Answer;
 use handlers::Known;
 use handlers::calls;
 use memory::Memory;
-use rules::LAST_TIME;
 use rules::Reply;
 use rules::Slot;
 use stream::Stream;
@@ -36,7 +37,7 @@ fn sized(c: Connection, table_len: usize, links_len: usize, sent_len: usize) -> 
     let p = memory.pool;
     if table_len == table::size(k) {
         if links_len == chunks::blocks(k, p) {
-            return sent_len == 12;
+            return sent_len == HEADER_SIZE;
         }
     }
     false
@@ -46,18 +47,9 @@ fn sized(c: Connection, table_len: usize, links_len: usize, sent_len: usize) -> 
 fn released(c: Connection, growth: u64, memory: Memory, answer: Answer) -> Done
     ensures { λ r. ⌜ r ≡ released c growth memory answer ⌝ }
 {
-    let config = c.config;
-    let rtt = c.rtt;
+    let connection = c.with_growth(growth).with_memory(memory);
     Done {
-        connection: Connection {
-            config,
-            rtt,
-            ended: c.ended,
-            next_id: c.next_id,
-            open_wait: c.open_wait,
-            growth,
-            memory,
-        },
+        connection,
         answer,
         read: 0,
     }
@@ -137,23 +129,6 @@ fn release(c: Connection, table: &mut [u64], links: &mut [u32], slot: Slot, row:
     released(c, growth, after, answer)
 }
 
-// Drops a handle, if it is held.
-fn drop_held(c: Connection, table: &mut [u64], links: &mut [u32], slot: Slot) -> Done
-    ensures { λ r. ⌜ Drops c (now (table .entry)) (now (links .entry)) slot r (now (table .exit)) (now (links .exit)) ⌝ }
-{
-    let memory = c.memory;
-    let k = memory.slots;
-    let i = slot.0;
-    if k <= i {
-        return connection::refuse(c, Reply::NotHeld);
-    }
-    let row = table::load(table, k, slot);
-    if row.held {
-        return release(c, table, links, slot, row);
-    }
-    connection::refuse(c, Reply::NotHeld)
-}
-
 // Drops a handle: its slot is free, its growth is given back, and no stream of its id stays in the table.
 pub fn drop_handle(
     c: Connection,
@@ -170,12 +145,16 @@ pub fn drop_handle(
     if !fits {
         return connection::refuse(c, Reply::Size);
     }
-    if LAST_TIME < time {
-        return connection::refuse(c, Reply::Time);
+    let memory = c.memory;
+    let found = connection::held_row(memory.slots, &table[..], slot, time);
+    match found {
+        Handle::Refused(reply) => connection::refuse(c, reply),
+        Handle::Held(row) => {
+            let done = release(c, table, links, slot, row);
+            let answer = done.answer;
+            let header = answer.sent;
+            connection::put(sent, header);
+            done
+        }
     }
-    let done = drop_held(c, table, links, slot);
-    let answer = done.answer;
-    let header = answer.sent;
-    connection::put(sent, header);
-    done
 }

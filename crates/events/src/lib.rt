@@ -4,6 +4,7 @@ ghost use Prim.Native.Nat.{_≤_, _<_, _+_};
 ghost use lib.ListN.{length};
 ghost use Rattle.events.specs.Numbers.{numberAt};
 ghost use Rattle.events.specs.Format.{settingsAt, following, valueOf, typedWith, lengthAt, frameAt, readAt, bytesAt, writeAt, closeAt, dropAt, restAt, timeAt, eventAt};
+use frame::header::HEADER_SIZE;
 use rules::Settings;
 
 // A number and the place after it; or the input ends before it does; or no input makes it a number.
@@ -69,9 +70,6 @@ pub enum Event {
 
 // "at most 16,384": a body or a count.
 pub const LARGEST: u64 = 16384;
-
-// The most bytes that an event takes: with as many from a place on, an event there is whole or unreadable.
-pub const LONGEST: usize = 16424;
 
 fn wide(b: u8) -> u64
     ensures { λ r. ⌜ r ≡ b ⌝ }
@@ -158,10 +156,10 @@ fn frame(src: &[u8], time: u64, p: usize) -> Event
         return Event::Short;
     }
     let left = src.len() - p;
-    if left < 12 {
+    if left < HEADER_SIZE {
         return Event::Short;
     }
-    let body = p + 12;
+    let body = p + HEADER_SIZE;
     if src[p + 1] != 0 {
         return Event::Frame {
             now: time,
@@ -175,7 +173,7 @@ fn frame(src: &[u8], time: u64, p: usize) -> Event
         return Event::Bad;
     }
     let size = n as usize;
-    if left - 12 < size {
+    if left - HEADER_SIZE < size {
         return Event::Short;
     }
     Event::Frame {

@@ -3,7 +3,7 @@ pub mod lent;
 
 ghost use mathlib.Core.Path.{_≡_};
 ghost use Prim.Native.Nat.{_+_, _≤_, min};
-ghost use Rattle.flow_control.specs.Windows.{fresh, due, paceOf, budget, newMaximum, granted, grow, nextWindowUpdate};
+ghost use Rattle.flow_control.specs.Windows.{fresh, due, paceOf, budget, newMaximum, granted, keep, grow, nextWindowUpdate};
 ghost use Rattle.flow_control.specs.Windows.{consumeSend, increaseSend, consumeReceive};
 use frame::header::Credit;
 use frame::header::DEFAULT_CREDIT;
@@ -138,6 +138,18 @@ impl FlowController {
         }
     }
 
+    // The step that leaves the maximum as it was, `update` saying why.
+    fn keep(self, buffer_len: u32, now: u64, growth: u64, update: Update) -> Stepped
+        ensures { λ r. ⌜ r ≡ keep self «buffer_len» now growth update ⌝ }
+    {
+        let flow = self.granted(self.max_receive_window, buffer_len, now);
+        Stepped {
+            flow,
+            growth,
+            update,
+        }
+    }
+
     // The step that raises the maximum, and the growth figure by as much.
     fn grow(self, buffer_len: u32, now: u64, growth: u64, spare: u64) -> Stepped
         requires { ⌜ growth + spare ≤ 18446744073709551615 ⌝ }
@@ -185,20 +197,12 @@ impl FlowController {
         let pace = pace_of(round_trip, self.last_window_update, now);
         match pace {
             Pace::Unmeasured => {
-                let flow = self.granted(self.max_receive_window, buffer_len, now);
-                Stepped {
-                    flow,
-                    growth,
-                    update: Update::Unmeasured(Credit(due)),
-                }
+                let update = Update::Unmeasured(Credit(due));
+                self.keep(buffer_len, now, growth, update)
             }
             Pace::Late => {
-                let flow = self.granted(self.max_receive_window, buffer_len, now);
-                Stepped {
-                    flow,
-                    growth,
-                    update: Update::Late(Credit(due)),
-                }
+                let update = Update::Late(Credit(due));
+                self.keep(buffer_len, now, growth, update)
             }
             Pace::Early => {
                 let spare = budget(limit, max_num_streams, growth);

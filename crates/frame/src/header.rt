@@ -1,10 +1,10 @@
-// The message frame header: what its fields mean, the frames' headers, and the twelve bytes that stand for it.
+// A frame's header: what its fields mean, the frames' headers, and the twelve bytes that stand for it.
 ghost use mathlib.Core.Path.{_≡_};
 ghost use Rattle.frame.specs.Header.{server, client, session, contains, joined, flagged, opening, closing, withSyn, withAck, withFin, withRst};
 ghost use Rattle.frame.specs.Wire.{tagNumber, typeOf, number16, number32, wire, decoded, encoded, written};
 ghost use Rattle.frame.specs.Header.{dataHeader, windowUpdateHeader, pingHeader, goAwayHeader, normal, protocolError, internalError};
 
-// The ID of a stream. 0 stands for the session and no stream.
+// The number of a stream; 0 is the session's own.
 pub struct StreamId(pub u32);
 
 // The flag word, all 16 bits of it.
@@ -54,10 +54,10 @@ pub enum Typed {
 
 pub const CONNECTION_ID: StreamId = StreamId(0);
 
-// Indicates the start of a new stream.
+// Opens a stream.
 pub const SYN: Flags = Flags(1);
 
-// Acknowledges the start of a new stream.
+// Accepts a stream that the other side opened.
 pub const ACK: Flags = Flags(2);
 
 // Half-closes a stream.
@@ -191,7 +191,7 @@ impl Header {
 
     // The bytes that this window update grants.
     pub fn credit(self) -> Credit
-        ensures { λ r. ⌜ r .0 ≡ self .length .0 ⌝ }
+        ensures { λ r. ⌜ r ≡ record { 0 = self .length .0 } ⌝ }
     {
         Credit(self.length.0)
     }

@@ -1,4 +1,4 @@
-// Headers of the Yamux specification, and the edges of their fields, read and written again. One line each:
+// Headers as document 01 gives them, and the edges of their fields, read and written again. One line each:
 // the bytes, document 01's reply, then type, flags, stream id, length and the bytes written, or what was refused.
 use frame::header::Credit;
 use frame::header::Decoded;

@@ -4,7 +4,6 @@ use mathlib.Core.Bool.{Bool, true, false, cond}
 use mathlib.Core.List.{List, [], append-nil}
 use Prim.Native.Nat.{ℕ, _+_, min}
 use lib.ListN.{length}
-use lib.Seq.{set-set}
 use lib.Dec.{eqb, ltb, leb}
 use borrow.Author.Tests.{eqb-true}
 use Rattle.rtt.specs.Pings.{nextPing}
@@ -21,13 +20,11 @@ use Rattle.stream.specs.declared.Reading.the-variants as reading
 use Rattle.stream.specs.declared.Written.{Written}
 use Rattle.stream.specs.declared.Written.the-variants as written
 use Rattle.rules.specs.Lists.{Place, at, nowhere}
-use Rattle.rules.specs.State.{Entry, Conn, entry, vacant, find, withSlot, withPings, withGrowth, lowestFree, listedCount, unacknowledged}
+use Rattle.rules.specs.State.{Entry, Conn, entry, find, withPings, withGrowth, lowestFree, listedCount, unacknowledged}
 use Rattle.rules.specs.Ending.{gives}
 use Rattle.rules.specs.Calls.{openAt, open-rules, readRest, readWith, windowStep, readRules, writeWith, writeRules, closeRules, dropAt, dropRules, pingOut, tickRules}
 use Rattle.handlers.specs.Perform.{outcomeOf, perform, vacancyOf}
 use Rattle.handlers.specs.Locals.{writeAction, onWrite, carrying, onClose, openIn, openWith, openAction, performOpen, isShut, nothingRead, readEnded, onRead, performRead, onDrop, tableAt, freed, growthReturned, pingSent, onTick}
-use Rattle.handlers.specs.declared.Answer.{Answer}
-use Rattle.handlers.specs.declared.Action.the-variants as action
 use Rattle.handlers.proofs.Rules.{ListedHeld, both, livesAt, find-lives, heardBy}
 
 -- ---- write and close
@@ -121,12 +118,6 @@ module _ (c : Conn) (i : ℕ) (e : Entry) where
       dropRules c i e ≡ freed i (perform returned returned [] (onDrop (record { 0 = i }) (tableAt c (find (c .slots) (e .stream .id)))))
   unfolding dropRules
   drop-performs held = drop-at (find (c .slots) (e .stream .id)) (find-lives c (e .stream .id) held)
-
--- where the stream removed is the handle's own, freeing the slot is all that is left
-pub drop-own : (c : Conn) (i : ℕ) (s : Stream) (listed : Bool) (o : Answer) →
-    freed i (perform c c [] (action.Store (record { 0 = i }) s listed o)) ≡ gives (outcomeOf o) (withSlot c i vacant)
-unfolding freed perform
-drop-own c i s listed o = rw set-set
 
 -- ---- tick
 

@@ -114,7 +114,7 @@ fn ping_sent(rtt: Rtt, ping: NextPing) -> Pong
         reader: false,
         writer: false,
     };
-    let id = header.length.0;
+    let id = header.id();
     let answer = answers::done(
         false,
         Which::None,

@@ -4,7 +4,6 @@ ghost use Rattle.handlers.specs.Actions.{stays, dataTake, updateTake, on
 use crate::Action;
 use crate::Known;
 use crate::answers;
-use frame::header::Credit;
 use frame::header::FIN;
 use frame::header::Header;
 use rules::Reply;
@@ -80,6 +79,7 @@ pub fn on_known_update(woke: bool, known: Known, header: Header) -> Action
     };
     let flags = header.flags;
     let fin = flags.contains(FIN);
-    let received = stream.on_window_update(Credit(header.length.0), fin);
+    let credit = header.credit();
+    let received = stream.on_window_update(credit, fin);
     update_take(slot, stream, woke, fin, received)
 }

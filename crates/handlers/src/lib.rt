@@ -46,9 +46,9 @@ pub enum Vacancy {
     Nowhere,
 }
 
-// What is to be done to the table and the pool.
+// What a frame or a call on a handle does to the table and the pool.
 pub enum Action {
-    // Nothing: all is as before the frame.
+    // Nothing: all is as before.
     Refuse(Reply),
     // Nothing to the table.
     Answer(Answer),
@@ -60,7 +60,7 @@ pub enum Action {
     New(Slot, Stream, Answer),
 }
 
-// The pings after a Ping frame, and what it answers.
+// The pings after a Ping frame or a tick, and what it answers.
 pub struct Pong {
     pub rtt: Rtt,
     pub answer: Answer,

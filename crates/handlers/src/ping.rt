@@ -46,16 +46,17 @@ pub fn on_ping(rtt: Rtt, in_table: bool, header: Header, now: u64, interval: u64
     ensures { λ r. ⌜ r ≡ onPing rtt «in_table» header now interval ⌝ }
 {
     let flags = header.flags;
+    let value = header.id();
     if flags.contains(ACK) {
-        let heard = rtt.handle_pong(header.length.0, now, interval);
+        let heard = rtt.handle_pong(value, now, interval);
         return pong_heard(rtt, heard);
     }
     let id = header.stream_id;
     if id.is_session() {
-        return ping_heard(rtt, header.length.0);
+        return ping_heard(rtt, value);
     }
     if in_table {
-        return ping_heard(rtt, header.length.0);
+        return ping_heard(rtt, value);
     }
     let answer = answers::no_action(false);
     Pong { rtt, answer }

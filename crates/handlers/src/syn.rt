@@ -8,7 +8,6 @@ use crate::Known;
 use crate::Limits;
 use crate::Vacancy;
 use crate::answers;
-use frame::header::Credit;
 use frame::header::DEFAULT_CREDIT;
 use frame::header::FIN;
 use frame::header::Header;
@@ -118,7 +117,8 @@ fn first_update(room: u32, woke: bool, vacancy: Vacancy, header: Header, now: u6
     let flags = header.flags;
     let fin = flags.contains(FIN);
     let fresh = Stream::new_inbound(header.stream_id, DEFAULT_CREDIT, now);
-    let received = fresh.on_window_update(Credit(header.length.0), fin);
+    let credit = header.credit();
+    let received = fresh.on_window_update(credit, fin);
     let Received::Taken(stream, _) = received else {
         let answer = answers::protocol_error(woke);
         return Action::Answer(answer);

@@ -86,11 +86,6 @@ unfolding orDash
 dash-some [] h = absurd (omega arith)
 dash-some (x ∷ xs) h = refl
 
-pub dash-size : (xs : List ℕ) → length (orDash xs) ≤ length xs + 1
-unfolding orDash
-dash-size [] = omega arith
-dash-size (x ∷ xs) = omega arith
-
 pub empty : (xs : List ℕ) → length xs ≡ 0 → xs ≡ []
 empty [] e = refl
 empty (x ∷ xs) e = absurd (omega arith)

@@ -26,7 +26,7 @@ use Rattle.table.specs.Table as table
 use Rattle.table.specs.declared.row.Row.{Row}
 use Rattle.table.specs.declared.Found.{Found}
 use Rattle.table.proofs.Laws.{length-view, nth-view}
-use Rattle.rules.proofs.Lists.{Says, first-says, first-same, sum-same}
+use Rattle.rules.proofs.Lists.{both, Says, first-says, first-same, sum-same}
 use Rattle.table.proofs.Searches.{found, lowest}
 use Rattle.memory.specs.Counts.{fits}
 use Rattle.memory.specs.Moves.{held}
@@ -68,10 +68,6 @@ unlisted r p e = go (r .listed) refl
     go : (b : Bool) → r .listed ≡ b → r .listed ≡ false
     go true q = never (sym (p .held q) ∙ e)
     go false q = q
-
-pub both-true : (a b : Bool) → cond a b false ≡ true → (a ≡ true) × (b ≡ true)
-both-true true b e = (refl, e)
-both-true false b e = never (sym e)
 
 not-true : (b : Bool) → cond b false true ≡ true → b ≡ false
 not-true true e = never (sym e)
@@ -129,14 +125,6 @@ module _ (m : Memory) (t l p : List ℕ) (v : Valid m t l p) where
       go (yes h) = entry-held i h ∙ v .proper i h .held (sym (entry-listed i h) ∙ e)
       go (no h) = never (sym e ∙ ap (λ (x : Entry). x .listed) (entry-beyond i (omega arith)))
 
-  -- a slot that is not held has nothing in it
-  pub not-held : (i : ℕ) → entry (slotsOf m t l p) i .held ≡ false → entry (slotsOf m t l p) i ≡ vacant
-  not-held i e = go (decLt i K)
-    where
-      go : Dec (i < K) → entry (slotsOf m t l p) i ≡ vacant
-      go (yes h) = entry-of-free i h (sym (entry-held i h) ∙ e)
-      go (no h) = entry-beyond i (omega arith)
-
   -- as many unread bytes as the queue says
   pub entry-unread : (i : ℕ) → i < m .slots → length (entry (slotsOf m t l p) i .bytes) ≡ rowAt t (m .slots) i .queue .unread
   entry-unread i h =
@@ -186,7 +174,7 @@ module _ (m : Memory) (t l p : List ℕ) (v : Valid m t l p) where
   find-at id i e =
       let w : Says (rules.hasId id) (slotsOf m t l p) vacant (at i) = rw e at (first-says (rules.hasId id) (slotsOf m t l p) vacant) in
       let x = entry (slotsOf m t l p) i in
-      let b = both-true (x .listed) (eqb (x .stream .id .0) (id .0)) (w .1) in
+      let b = both (x .listed) (eqb (x .stream .id .0) (id .0)) (w .1) in
       (omega (arith, slots-length), b .0, listed-held i (b .0), ap (λ (n : ℕ). record { 0 = n }) (eqb-true (x .stream .id .0) (id .0) (b .1)))
 
   -- the slot that a search for a free one gives is not held
@@ -243,8 +231,8 @@ counts-unique m t l p v m′ t′ l′ p′ v′ e = (
 pub fits-sized : (m : Memory) (t l p : List ℕ) → 1 ≤ m .slots → m .slots ≤ 1024 → m .pool < 2 ^ 32 → fits m (length t) (length l) (length p) ≡ true → Sized m t l p
 fits-sized m t l p some most pooled e =
     let n = blocksFor (m .slots) (m .pool) in
-    let a = both-true (eqb (length t) (table.size (m .slots))) (cond (eqb (length l) n) (eqb (length p) (n * BLOCK)) false) e in
-    let b = both-true (eqb (length l) n) (eqb (length p) (n * BLOCK)) (a .1) in
+    let a = both (eqb (length t) (table.size (m .slots))) (cond (eqb (length l) n) (eqb (length p) (n * BLOCK)) false) e in
+    let b = both (eqb (length l) n) (eqb (length p) (n * BLOCK)) (a .1) in
     record {
       some = some;
       most = most;

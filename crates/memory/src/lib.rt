@@ -25,13 +25,14 @@ pub struct Drawn {
     pub count: usize,
 }
 
-const TOP: usize = 4294967296;
+// How many numbers have 32 bits.
+const RANGE: usize = 4294967296;
 
 // The sum's low 32 bits: all of it, in valid memory.
 fn more(n: u32, by: usize) -> u32
     ensures { λ r. ⌜ r ≡ (n + by) % (2 ^ 32) ⌝ }
 {
-    (((n as usize) + by % TOP) % TOP) as u32
+    (((n as usize) + by % RANGE) % RANGE) as u32
 }
 
 // The difference; 0 where there is none.

@@ -33,13 +33,12 @@ use Rattle.memory.specs.Moves.{Makes}
 use Rattle.memory.specs.Slots.{slotsOf}
 use Rattle.memory.specs.declared.Memory.{Memory}
 use Rattle.memory.proofs.Laws.{never, free-at, listed-count, backlog}
-use Rattle.memory.proofs.Starts.{nothing-advances}
 use Rattle.connection.specs.Abstract.{absOf, Valid, Fresh}
 use Rattle.connection.specs.Promises.{bareAnswer, refused, gateOf, Follows, Over, vacancyIn}
 use Rattle.connection.specs.declared.Connection.{Connection}
 use Rattle.connection.specs.declared.Done.{Done}
 use Rattle.connection.specs.declared.Gate.the-variants as gate
-use Rattle.connection.proofs.Promises.{refuse-follows}
+use Rattle.connection.proofs.Promises.{refuse-follows, answer-follows}
 use Rattle.connection.proofs.Tests.{gate-shut, gate-open, vacancy-rules}
 use Rattle.connection.proofs.Ids.{Below, below-set}
 use Rattle.opening.specs.Open.{decided, opened, settled, Opens, Fits, Sound, Acts, Enters}
@@ -86,13 +85,7 @@ module _ (c : Connection) (t l p : List ℕ) where
   pub waiting : Acts c t l p opening.Wait (settled c (c .«next_id») true (c .memory) (bareAnswer reply.Wait false)) t l p
   unfolding performOpen
   waiting = record {
-    steps = λ v f. record {
-      valid = record { memory = v .memory; slots = v .slots; pool = v .pool; fresh = record { parity = v .fresh .parity; below = v .fresh .below } };
-      after = refl;
-      advances = nothing-advances (c .memory) t l p (v .memory);
-      says = record { reply = refl; slot = refl; value = refl; sent = refl; wakes = refl };
-      read = refl;
-    };
+    steps = λ v f. answer-follows c t l p (c .rtt) true (bareAnswer reply.Wait false) v;
     refuses = λ s e. never (sym e);
   }
 

@@ -21,7 +21,8 @@ use Rattle.rules.specs.declared.Mode.the-variants.{Client, Server}
 use Rattle.memory.specs.Moves.{Starts}
 use Rattle.memory.specs.Slots.{slotsOf, Sized}
 use Rattle.memory.specs.declared.Memory.{Memory}
-use Rattle.memory.proofs.Laws.{never, both-true, fits-sized}
+use Rattle.rules.proofs.Lists.{both}
+use Rattle.memory.proofs.Laws.{never, fits-sized}
 use Rattle.connection.specs.Abstract.{absOf, Fresh}
 use Rattle.opening.specs.Start.{sized, started, Begins, Ranged, Lays, Creates}
 use Rattle.opening.specs.declared.Created.{Created}
@@ -40,7 +41,7 @@ last-ranged s k e =
     let n = passed (within 1 1024 (s .slots)) setting.Slots _ k (b .1) in
     let m = passed (leb (s .«max_num_streams») (s .slots)) setting.Slots _ k (n .1) in
     let p = passed (leb (s .pool) 4294967295) setting.Pool _ k (m .1) in
-    let w = both-true (leb 1 (s .slots)) (leb (s .slots) 1024) (n .0) in
+    let w = both (leb 1 (s .slots)) (leb (s .slots) 1024) (n .0) in
     let low = leb-true 1 (s .slots) (w .0) in
     let high = leb-true (s .slots) 1024 (w .1) in
     let pool = leb-true (s .pool) 4294967295 (p .0) in

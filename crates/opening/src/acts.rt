@@ -55,18 +55,9 @@ fn opened(slot: Slot, id: StreamId) -> Answer
 fn settled(c: Connection, next_id: u32, open_wait: bool, memory: Memory, answer: Answer) -> Done
     ensures { λ r. ⌜ r ≡ settled c «next_id» «open_wait» memory answer ⌝ }
 {
-    let config = c.config;
-    let rtt = c.rtt;
+    let connection = c.with_opens(next_id, open_wait).with_memory(memory);
     Done {
-        connection: Connection {
-            config,
-            rtt,
-            ended: c.ended,
-            next_id,
-            open_wait,
-            growth: c.growth,
-            memory,
-        },
+        connection,
         answer,
         read: 0,
     }

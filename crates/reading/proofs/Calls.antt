@@ -1,29 +1,30 @@
 -- How a read comes to its promise: by a wrong size, a refusal, with nothing to read, or by its rule. Assumes nothing.
-use mathlib.Core.Path.{_≡_, refl, sym, ap}
+use mathlib.Core.Path.{_≡_, refl, sym, ap, _∙_}
 use mathlib.Core.Bool.{Bool, true, false}
 use mathlib.Core.List.{List}
-use Prim.Native.Nat.{ℕ, _≤_, _<_}
+use Prim.Native.Nat.{ℕ, _≤_}
 use native.Mathlib.Omega.{arith}
 use lib.ListN.{length, drop}
 use Rattle.stream.specs.declared.Sent.the-variants.{Nothing}
 use Rattle.rules.specs.Ending.{Result, gives, refuse}
-use Rattle.rules.specs.Step.{step, read, holding}
+use Rattle.rules.specs.Step.{step, read}
 use Rattle.rules.specs.declared.Reply.{Reply}
 use Rattle.rules.specs.declared.Reply.the-variants as reply
-use Rattle.table.specs.Table.{rowAt}
+use Rattle.table.specs.declared.row.Row.{Row}
 use Rattle.handlers.specs.Perform.{outcomeOf}
 use Rattle.handlers.specs.Locals.{isShut, nothingRead}
 use Rattle.memory.proofs.Laws.{never}
 use Rattle.memory.proofs.Starts.{nothing-advances}
 use Rattle.connection.specs.Abstract.{absOf, Valid}
-use Rattle.connection.specs.Promises.{refused, gateOf, sentAfter, Promised}
+use Rattle.connection.specs.Parts.{handleOf}
+use Rattle.connection.specs.Promises.{refused, sentAfter, Promised}
 use Rattle.rules.specs.Replies.{leavesAll, mayGive}
 use Rattle.connection.specs.declared.Connection.{Connection}
 use Rattle.connection.specs.declared.Done.{Done}
-use Rattle.connection.specs.declared.Gate.the-variants as gate
+use Rattle.connection.specs.declared.Handle.the-variants.{Held, Refused}
 use Rattle.connection.proofs.Promises.{refuse-follows}
-use Rattle.connection.proofs.Tests.{gate-shut, gate-open, holding-beyond, holding-free, holding-held}
-use Rattle.reading.specs.Promises.{ruleOf, Reads, ReadsCall, Outputs}
+use Rattle.connection.proofs.Tests.{is-held, handle-refused, handle-held}
+use Rattle.reading.specs.Promises.{ruleOf, Holds, Reads, ReadsCall, Outputs}
 use Rattle.reading.proofs.Rows.{shut-rule}
 
 module _ (c : Connection) (t l p out : List ℕ) where
@@ -61,44 +62,30 @@ module _ (c : Connection) (t l p out : List ℕ) where
         only = λ e. (refl, refl);
       })
 
-  -- ---- the handle
-
-  module _ (i time : ℕ) where
-    abbrev next : Result
-    next = ruleOf (absOf c t l p) i (length out) time
-
-    pub beyond-reads : c .memory .slots ≤ i → Reads (holding (absOf c t l p) i next) c t l p out (refused c reply.NotHeld) t l out
-    beyond-reads h = refused-reads (holding (absOf c t l p) i next) reply.NotHeld (λ v. holding-beyond c t l p v i next h)
-
-    pub free-reads : i < c .memory .slots → rowAt t (c .memory .slots) i .held ≡ false
-        → Reads (holding (absOf c t l p) i next) c t l p out (refused c reply.NotHeld) t l out
-    free-reads h e = refused-reads (holding (absOf c t l p) i next) reply.NotHeld (λ v. holding-free c t l p v i next h e)
-
-    pub held-reads : i < c .memory .slots → rowAt t (c .memory .slots) i .held ≡ true → (d : Done) (t′ l′ out′ : List ℕ)
-        → Reads next c t l p out d t′ l′ out′ → Reads (holding (absOf c t l p) i next) c t l p out d t′ l′ out′
-    held-reads h e d t′ l′ out′ = same-reads next (holding (absOf c t l p) i next) d t′ l′ out′ (λ v. holding-held c t l p v i next h e)
-
 -- ---- the call
 
 module _ (c : Connection) (t l p : List ℕ) (i : ℕ) (out : List ℕ) (time : ℕ) where
   pub wrong-call : ReadsCall false c t l p i out time (refused c reply.Size) t l out
   wrong-call = record { right = λ e. never (sym e); wrong = λ e. record { size = refl; table = refl; links = refl; kept = refl } }
 
-  pub shut-call : (r : Reply) → gateOf false time ≡ gate.Shut r → ReadsCall true c t l p i out time (refused c r) t l out
+  abbrev rule : Result
+  rule = ruleOf (absOf c t l p) i (length out) time
+
+  pub refused-call : (r : Reply) → handleOf (c .memory .slots) t i time ≡ Refused r → ReadsCall true c t l p i out time (refused c r) t l out
   unfolding step
-  shut-call r e = record {
-    right = λ q. refused-reads c t l p out (step (absOf c t l p) (read time i (length out))) r
-        (λ v. gate-shut (absOf c t l p) false time (holding (absOf c t l p) i (ruleOf (absOf c t l p) i (length out) time)) r e);
+  refused-call r e = record {
+    right = λ q. refused-reads c t l p out (step (absOf c t l p) (read time i (length out))) r (λ v. handle-refused c t l p v i time rule r e);
     wrong = λ q. never q;
   }
 
-  pub open-call : gateOf false time ≡ gate.Open → (d : Done) (t′ l′ out′ : List ℕ)
-      → Reads (holding (absOf c t l p) i (ruleOf (absOf c t l p) i (length out) time)) c t l p out d t′ l′ out′ → ReadsCall true c t l p i out time d t′ l′ out′
+  pub held-call : (row : Row) → handleOf (c .memory .slots) t i time ≡ Held row → (d : Done) (t′ l′ out′ : List ℕ)
+      → (Holds c t i row → Reads rule c t l p out d t′ l′ out′) → ReadsCall true c t l p i out time d t′ l′ out′
   unfolding step
-  open-call e d t′ l′ out′ r =
-      let rule = holding (absOf c t l p) i (ruleOf (absOf c t l p) i (length out) time) in
+  held-call row e d t′ l′ out′ r =
+      let h = is-held (c .memory .slots) t i time row e in
+      let holds : Holds c t i row = record { loaded = h .1; below = h .0; held = ap (λ (x : Row). x .held) (h .1) ∙ h .2 } in
       record {
-        right = λ q. same-reads c t l p out rule (step (absOf c t l p) (read time i (length out))) d t′ l′ out′ (λ v. gate-open (absOf c t l p) false time rule e) r;
+        right = λ q. same-reads c t l p out rule (step (absOf c t l p) (read time i (length out))) d t′ l′ out′ (λ v. handle-held c t l p v i time rule row e) (r holds);
         wrong = λ q. never q;
       }
 

@@ -16,6 +16,7 @@ use Rattle.memory.specs.Slots.{slotsOf}
 use Rattle.memory.specs.declared.Memory.{Memory}
 use Rattle.memory.proofs.Laws.{never}
 use Rattle.connection.specs.Abstract.{absOf, Valid, Fresh}
+use Rattle.connection.specs.Parts.{withMemory, withGrowth}
 use Rattle.connection.specs.Promises.{Follows}
 use Rattle.rules.specs.Replies.{mayGive}
 use Rattle.connection.specs.declared.Connection.{Connection}
@@ -28,11 +29,7 @@ use Rattle.reading.specs.Promises.{Reads, Draws}
 
 -- the connection with the step's growth and this memory, and what the step answers
 abbrev pub taken : Connection → ReadStep → Memory → Done
-taken c s m = record {
-  connection = record { config = c .config; rtt = c .rtt; ended = c .ended; «next_id» = c .«next_id»; «open_wait» = c .«open_wait»; growth = s .growth; memory = m };
-  answer = s .answer;
-  read = s .count;
-}
+taken c s m = record { connection = withMemory (withGrowth c (s .growth)) m; answer = s .answer; read = s .count }
 
 -- n bytes at most are there on either side, so all n are drawn
 all-drawn : (n a b k : ℕ) → a ≡ n → n ≤ b → k ≡ min a b → k ≡ n

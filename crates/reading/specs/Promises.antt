@@ -10,7 +10,7 @@ use Rattle.stream.specs.declared.Sent.the-variants.{Nothing}
 use Rattle.rules.specs.State.{Conn, entry}
 use Rattle.rules.specs.Ending.{Result}
 use Rattle.rules.specs.Calls.{readRules}
-use Rattle.rules.specs.Step.{step, read, holding}
+use Rattle.rules.specs.Step.{step, read}
 use Rattle.rules.specs.declared.Reply.the-variants as reply
 use Rattle.rules.specs.declared.Slot.{Slot}
 use Rattle.table.specs.Table.{rowAt}
@@ -80,10 +80,6 @@ pub record Holds (c : Connection) (t : List ℕ) (i : ℕ) (row : Row) : Type 0 
 abbrev pub ReadsRow : Connection → List ℕ → List ℕ → List ℕ → ℕ → Row → List ℕ → ℕ → Done → List ℕ → List ℕ → List ℕ → Type 0
 ReadsRow c t l p i row out time d t′ l′ out′ =
     Holds c t i row → Reads (ruleOf (absOf c t l p) i (length out) time) c t l p out d t′ l′ out′
-
-abbrev pub ReadsSlot : Connection → List ℕ → List ℕ → List ℕ → ℕ → List ℕ → ℕ → Done → List ℕ → List ℕ → List ℕ → Type 0
-ReadsSlot c t l p i out time d t′ l′ out′ =
-    Reads (holding (absOf c t l p) i (ruleOf (absOf c t l p) i (length out) time)) c t l p out d t′ l′ out′
 
 -- a wrong size is 14 before all else, and leaves all as it was
 pub record Unsized (c : Connection) (t l out : List ℕ) (d : Done) (t′ l′ out′ : List ℕ) : Type 0 where

@@ -4,10 +4,10 @@ ghost use Prim.Native.Nat.{_≤_};
 ghost use lib.ListN.{length};
 ghost use Rattle.rules.specs.Step.{read};
 ghost use Rattle.connection.specs.Promises.{Promised};
-ghost use Rattle.reading.specs.Promises.{sized, stepOf, Takes, ReadsRow, ReadsSlot, ReadsCall, Outputs};
+ghost use Rattle.reading.specs.Promises.{sized, stepOf, Takes, ReadsRow, ReadsCall, Outputs};
 use connection::Connection;
 use connection::Done;
-use connection::Gate;
+use connection::Handle;
 use frame::header::HEADER_SIZE;
 use handlers::ReadStep;
 use rules::Reply;
@@ -31,7 +31,7 @@ fn step_of(c: Connection, slot: Slot, row: Row, asked: usize, time: u64) -> Read
 {
     let config = c.config;
     let rtt = c.rtt;
-    let round_trip = rtt.round_trip;
+    let round_trip = rtt.get();
     let stream = row.stream;
     let queue = row.queue;
     let updated = stream.send_window_update(
@@ -59,23 +59,13 @@ fn take(
     requires { ⌜ step .count ≤ length (now out) ⌝ }
     ensures { λ r. ⌜ Takes c (now (table .entry)) (now (links .entry)) (now (pool .entry)) (slot .0) row step (now (out .entry)) r (now (table .exit)) (now (links .exit)) (now (out .exit)) ⌝ }
 {
-    let config = c.config;
-    let rtt = c.rtt;
     let memory = c.memory;
     let n = step.count as usize;
     let drawn = memory.drain(table, links, pool, slot, row, step.stream, &mut out[..n]);
-    let after = drawn.memory;
+    let connection = c.with_growth(step.growth).with_memory(drawn.memory);
     let answer = step.answer;
     Done {
-        connection: Connection {
-            config,
-            rtt,
-            ended: c.ended,
-            next_id: c.next_id,
-            open_wait: c.open_wait,
-            growth: step.growth,
-            memory: after,
-        },
+        connection,
         answer,
         read: step.count,
     }
@@ -107,32 +97,7 @@ fn read_row(
     take(c, table, links, pool, slot, row, step, out)
 }
 
-// A read from a slot, refused where its handle is not held.
-fn read_slot(
-    c: Connection,
-    table: &mut [u64],
-    links: &mut [u32],
-    pool: &[u8],
-    slot: Slot,
-    out: &mut [u8],
-    time: u64,
-) -> Done
-    ensures { λ r. ⌜ ReadsSlot c (now (table .entry)) (now (links .entry)) (now (pool .entry)) (slot .0) (now (out .entry)) time r (now (table .exit)) (now (links .exit)) (now (out .exit)) ⌝ }
-{
-    let memory = c.memory;
-    let k = memory.slots;
-    let i = slot.0;
-    if i >= k {
-        return connection::refuse(c, Reply::NotHeld);
-    }
-    let row = table::load(&table[..], k, slot);
-    if !row.held {
-        return connection::refuse(c, Reply::NotHeld);
-    }
-    read_row(c, table, links, pool, slot, row, out, time)
-}
-
-// A read once the sizes are known: its time, and then its slot.
+// A read once the sizes are known: its time, and then its handle.
 fn read_call(
     c: Connection,
     table: &mut [u64],
@@ -148,10 +113,11 @@ fn read_call(
     if !sized {
         return connection::refuse(c, Reply::Size);
     }
-    let gate = connection::judge(false, time);
-    match gate {
-        Gate::Shut(reply) => connection::refuse(c, reply),
-        Gate::Open => read_slot(c, table, links, pool, slot, out, time),
+    let memory = c.memory;
+    let found = connection::held_row(memory.slots, &table[..], slot, time);
+    match found {
+        Handle::Refused(reply) => connection::refuse(c, reply),
+        Handle::Held(row) => read_row(c, table, links, pool, slot, row, out, time),
     }
 }
 

@@ -1,4 +1,4 @@
--- Laws of searches and sums over a list, over any element type. Assumes nothing.
+-- Laws of tests, and of searches and sums over a list, over any element type. Assumes nothing.
 use mathlib.Core.Bool.{Bool, true, false, cond}
 use mathlib.Core.List.{List, [], _∷_}
 use mathlib.Core.Path.{_≡_, refl, ap}
@@ -8,6 +8,11 @@ use native.Mathlib.Omega.{arith}
 use lib.ListN.{length, getD, drop, set}
 use lib.Seq.{drop-cons}
 use Rattle.rules.specs.Lists.{Place, at, nowhere, past, first, sum}
+
+-- two tests that both pass
+pub both : (a b : Bool) → cond a b false ≡ true → (a ≡ true) × (b ≡ true)
+both true b e = (refl, e)
+both false b e = absurd (let z : _≡_ {A = ℕ} 0 1 = cc in omega arith)
 
 module _ {A : Type 0} (f : A → Bool) where
   -- the first that passes: it passes, and none before it

@@ -3,6 +3,7 @@ ghost use mathlib.Core.Path.{_≡_};
 ghost use Prim.Native.Nat.{_≤_};
 ghost use Rattle.rules.specs.Settings.{checked, checkedLast, configOf, modeOf};
 ghost use Rattle.rules.specs.Replies.{number};
+use frame::header::DEFAULT_CREDIT;
 
 // The ten numbers of a connection as they are typed.
 pub struct Settings {
@@ -101,6 +102,7 @@ pub struct Woke {
 // Times are nanoseconds, 0..2^62-1.
 pub const LAST_TIME: u64 = 4611686018427387903;
 
+// The largest number of 32 bits.
 const TOP: u64 = 4294967295;
 
 fn mode_of(n: u64) -> Mode
@@ -120,7 +122,7 @@ impl Settings {
         if 512 < self.max_num_streams {
             return Checked::Wrong(Setting::Streams);
         }
-        if self.limit < self.max_num_streams * 262144 {
+        if self.limit < self.max_num_streams * (DEFAULT_CREDIT as u64) {
             return Checked::Wrong(Setting::Limit);
         }
         if 1 < self.read_after_close {

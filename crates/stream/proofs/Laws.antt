@@ -13,11 +13,11 @@ use Rattle.rtt.specs.declared.RoundTrip.{RoundTrip}
 use Rattle.flow_control.specs.Windows.{top, budget, nextWindowUpdate, withSend}
 use Rattle.flow_control.specs.declared.Update.{Update}
 use Rattle.flow_control.specs.declared.Update.the-variants as update
-use Rattle.flow_control.proofs.Laws.{Fits, Steps, creditOf, credited, steps, still}
+use Rattle.flow_control.proofs.Laws.{Steps, creditOf, credited, steps, still}
 use Rattle.stream.specs.States.{canRead, canWrite, acknowledge}
 use Rattle.stream.specs.Streams.{wakes, withWaits, dataTaken, onData, updateTaken, onWindowUpdate}
 use Rattle.stream.specs.Streams.{updateFrame, stepTaken, sendWindowUpdate}
-use Rattle.stream.specs.Streams.{readEnd, writeCount, write, closeIn, close, addFlag, owesAck, made}
+use Rattle.stream.specs.Streams.{writeCount, write, closeIn, close, addFlag, owesAck}
 use Rattle.stream.specs.declared.State.{State}
 use Rattle.stream.specs.declared.State.the-variants.{Open, SendClosed, RecvClosed, Closed}
 use Rattle.stream.specs.declared.Flag.{Flag}
@@ -29,13 +29,7 @@ use Rattle.stream.specs.declared.Sent.{Sent}
 use Rattle.stream.specs.declared.Sent.the-variants.{Frame, Nothing}
 use Rattle.stream.specs.declared.Step.the-variants.{Skipped}
 use Rattle.stream.specs.declared.Updated.{Updated}
-use Rattle.stream.specs.declared.Reading.{Reading}
-use Rattle.stream.specs.declared.Reading.the-variants as reading
 use Rattle.stream.specs.declared.Written.the-variants as written
-
--- id, windows and maximum are numbers of 32 bits
-abbrev pub InRange : Stream → Type 0
-InRange s = (s .id .0 ≤ top) × Fits (s .flow)
 
 -- ---- frames received
 
@@ -61,9 +55,6 @@ module _ (s : Stream) (n : ℕ) (fin : Bool) where
   pub data-refused : onData s n fin ≡ ProtocolError → s .flow .«receive_window» < n
   data-refused e = leb-false _ _ (either-error (leb n (s .flow .«receive_window»)) (dataTaken s n fin) (wakes (s .reader) false) e)
 
-  pub data-in-range : InRange s → InRange (dataTaken s n fin)
-  data-in-range h = (h .0, (omega arith, h .1 .1, h .1 .2))
-
 module _ (s : Stream) (c : Credit) (fin : Bool) where
   -- a credit that is taken leaves a send window of 32 bits
   pub update-taken :
@@ -78,9 +69,6 @@ module _ (s : Stream) (c : Credit) (fin : Bool) where
   update-refused e =
       leb-false _ _
       (either-error (leb (s .flow .«send_window» + c .0) top) (updateTaken s c fin) (wakes (cond fin (s .reader) false) (s .writer)) e)
-
-  pub update-in-range : s .flow .«send_window» + c .0 ≤ top → InRange s → InRange (updateTaken s c fin)
-  update-in-range r h = (h .0, (h .1 .0, h .1 .1, r))
 
 -- ---- read
 
@@ -147,30 +135,6 @@ module _ (s : Stream) (unread now : ℕ) (rt : RoundTrip) (limit m growth : ℕ)
       s .flow .«receive_window» + creditSent (sendWindowUpdate s unread now rt limit m growth .sent)
   updated-credit = credits (canRead (s .state))
 
-  pub updated-in-range : InRange s → InRange (sendWindowUpdate s unread now rt limit m growth .stream)
-  updated-in-range h = (rw (updated .same-id) (h .0), updated .stepped .fits (h .1))
-
-abbrev pub readStream : Reading → Stream
-readStream (reading.Done s) = s
-readStream (reading.Wait s) = s
-
--- id and windows stay
-abbrev pub Same : Stream → Stream → Type 0
-Same s t = (t .id ≡ s .id) × (t .flow ≡ s .flow)
-
-pub same-in-range : (s t : Stream) → Same s t → InRange s → InRange t
-same-in-range s t e h = (rw (e .0) (h .0), rw (e .1) (h .1))
-
-either-end :
-    (b d : Bool) (s w : Stream) → Same s w →
-    Same s (readStream (cond b (cond d (reading.Wait w) (reading.Done s)) (reading.Done s)))
-either-end true true s w e = e
-either-end true false s w e = (refl, refl)
-either-end false d s w e = (refl, refl)
-
-pub read-end-same : (s : Stream) (n : ℕ) → Same s (readStream (readEnd s n))
-read-end-same s n = either-end (eqb n 0) (canRead (s .state)) s (withWaits s true (s .writer)) (refl, refl)
-
 -- ---- write
 
 -- the stream after a Data frame of n bytes
@@ -228,10 +192,11 @@ module _ (s : Stream) (given split : ℕ) where
       let r = either-wait (canWrite (s .state)) shut waits t after sent e in
       (r .0, eqb-true _ _ (r .1), r .2)
 
-pub written-in-range : (s : Stream) (n : ℕ) → InRange s → InRange (frameTaken s n)
-written-in-range s n h = (h .0, (h .1 .0, h .1 .1, omega arith))
-
 -- ---- close
+
+-- id and windows stay
+abbrev pub Same : Stream → Stream → Type 0
+Same s t = (t .id ≡ s .id) × (t .flow ≡ s .flow)
 
 closed-same : (t : State) (s : Stream) → Same s (closeIn t s .stream)
 closed-same (Open a) s = (refl, refl)
@@ -241,8 +206,3 @@ closed-same Closed s = (refl, refl)
 
 pub close-same : (s : Stream) → Same s (close s .stream)
 close-same s = closed-same (s .state) s
-
--- ---- a new stream
-
-pub made-in-range : (id : StreamId) (flag : Flag) (send now : ℕ) → id .0 ≤ top → send ≤ top → InRange (made id flag send now)
-made-in-range id flag send now h r = (h, (omega arith, omega arith, r))

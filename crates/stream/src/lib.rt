@@ -21,9 +21,9 @@ use rtt::RoundTrip;
 pub enum State {
     // Open both ways. Of our own stream `acknowledged` says that the remote sent ACK, of an inbound one that we did.
     Open { acknowledged: bool },
-    // Open for incoming messages.
+    // We have closed our side; the remote may still send.
     SendClosed,
-    // Open for outgoing messages.
+    // The remote has closed its side; we may still send.
     RecvClosed,
     Closed,
 }

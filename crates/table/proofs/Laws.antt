@@ -13,8 +13,9 @@ use lib.Dec.{ltb, leb}
 use lib.ListN.{length, getD, take, drop, set, replicate, length-set, length-replicate, getD-replicate, length-map, List·getD-map}
 use lib.Seq.{ext-getD, getD-set-same, getD-set-other, drop-set-lt}
 use Rattle.frame.specs.declared.header.StreamId.{StreamId}
+use Rattle.chunks.specs.Blocks.{put}
 use Rattle.table.specs.Rows.{rowOf, keyOf, cellsOf, blank, endRow, Proper}
-use Rattle.table.specs.Table.{size, place, put, rowAt, view, stored, hintPlace, inserted, ended, zeros, Tied, nth}
+use Rattle.table.specs.Table.{size, place, rowAt, view, stored, hintPlace, inserted, ended, zeros, Tied, nth}
 use Rattle.table.specs.declared.row.Row.{Row}
 use Rattle.table.proofs.Lists.{length-tabulate, getD-tabulate, part-replicate}
 use Rattle.table.proofs.Parts.{length-put, put-same, put-before, put-after, getD-put-before}

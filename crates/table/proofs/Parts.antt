@@ -1,18 +1,12 @@
 -- Laws of a part of a list that is replaced by one as long. Assumes nothing.
 use mathlib.Core.Path.{_≡_, refl, sym, ap, _∙_}
 use mathlib.Core.List.{List, [], _∷_, _++_, append-assoc}
-use Prim.Native.Nat.{ℕ, zero, suc, _+_, _-_, _≤_, _<_}
-use native.Mathlib.Nat.{suc-sub-suc, sub-zero}
+use Prim.Native.Nat.{ℕ, _+_, _-_, _≤_, _<_}
 use native.Mathlib.Omega.{arith}
 use lib.ListN.{length, getD, take, drop, set, length-append, length-drop, List·getD-append}
-use lib.Seq.{take-nil, drop-drop, take-take, take-append-le, drop-append-le, drop-append-add, drop-at, take-at, length-take-le, getD-take}
-use Rattle.table.specs.Table.{put}
-
-drop-take : (k n : ℕ) (l : List ℕ) → drop k (take n l) ≡ take (n - k) (drop k l)
-drop-take zero n l = ap (λ (m : ℕ). take m l) (sym (sub-zero n))
-drop-take (suc k) zero l = let e : 0 ≡ 0 - suc k = omega arith in ap (λ (m : ℕ). take m (drop (suc k) l)) e
-drop-take (suc k) (suc n) [] = sym (take-nil (suc n - suc k))
-drop-take (suc k) (suc n) (x ∷ l) = drop-take k n l ∙ ap (λ (m : ℕ). take m (drop k l)) (sym (suc-sub-suc n k))
+use lib.Seq.{drop-drop, take-take, take-append-le, drop-append-le, drop-append-add, drop-at, take-at, length-take-le, getD-take}
+use Rattle.chunks.specs.Blocks.{put}
+use Rattle.chunks.proofs.Parts.{drop-take}
 
 -- a list of six, each written
 pub six : (l : List ℕ) (a b c d e f : ℕ) → length l ≡ 6 → set (set (set (set (set (set l 0 a) 1 b) 2 c) 3 d) 4 e) 5 f ≡ a ∷ b ∷ c ∷ d ∷ e ∷ f ∷ []

@@ -19,7 +19,7 @@ use Rattle.table.specs.declared.row.Row.{Row}
 use Rattle.table.specs.declared.Found.{Found}
 use Rattle.table.specs.declared.Found.the-variants.{At, Nowhere}
 use Rattle.table.proofs.Laws.{length-view, nth-view, row-held, row-listed}
-use Rattle.rules.proofs.Lists.{first-at, first-nowhere, first-same}
+use Rattle.rules.proofs.Lists.{both, first-at, first-nowhere, first-same}
 use Rattle.table.proofs.Lists.{false-of}
 
 -- ---- an answer and the place that it stands for
@@ -51,10 +51,6 @@ lowest t k sized =
 
 -- ---- the slot of an id
 
-both-true : (a b : Bool) → cond a b false ≡ true → (a ≡ true) × (b ≡ true)
-both-true true b e = (refl, e)
-both-true false b e = let z : _≡_ {A = ℕ} 0 1 = cc in absurd (omega arith)
-
 module _ (t : List ℕ) (k : ℕ) (id : StreamId) (sized : length t ≡ size k) (tied : Tied t k) where
   -- a row has the id exactly where its key is the id's
   has-key : (i : ℕ) → i < k → getD t i 0 ≡ id .0 + 2 → hasId id (nth (view t k) i) ≡ true
@@ -67,7 +63,7 @@ module _ (t : List ℕ) (k : ℕ) (id : StreamId) (sized : length t ≡ size k) 
   key-has : (i : ℕ) → i < k → hasId id (nth (view t k) i) ≡ true → getD t i 0 ≡ id .0 + 2
   unfolding Tied
   key-has i h e =
-      let b = both-true (rowAt t k i .listed) (eqb (rowAt t k i .stream .id .0) (id .0)) (rw (nth-view t k i h) at e) in
+      let b = both (rowAt t k i .listed) (eqb (rowAt t k i .stream .id .0) (id .0)) (rw (nth-view t k i h) at e) in
       let l : 1 < getD t i 0 = ltb-true 1 (getD t i 0) (sym (row-listed t k i sized h) ∙ b .0) in
       omega (arith, tied i h l, eqb-true (rowAt t k i .stream .id .0) (id .0) (b .1))
 
@@ -82,8 +78,8 @@ module _ (t : List ℕ) (k : ℕ) (id : StreamId) (sized : length t ≡ size k) 
         where
           no : hasId id (nth (view t k) j) ≡ true → ⊥
           no e =
-              let a = both-true (nth (view t k) j .listed) (eqb (nth (view t k) j .stream .id .0) (id .0)) e in
-              let b = both-true (nth (view t k) (s .0) .listed) (eqb (nth (view t k) (s .0) .stream .id .0) (id .0)) (has-key (s .0) (fs .0) (fs .1)) in
+              let a = both (nth (view t k) j .listed) (eqb (nth (view t k) j .stream .id .0) (id .0)) e in
+              let b = both (nth (view t k) (s .0) .listed) (eqb (nth (view t k) (s .0) .stream .id .0) (id .0)) (has-key (s .0) (fs .0) (fs .1)) in
               let i : nth (view t k) j .stream .id .0 ≡ nth (view t k) (s .0) .stream .id .0
               = eqb-true (nth (view t k) j .stream .id .0) (id .0) (a .1) ∙ sym (eqb-true (nth (view t k) (s .0) .stream .id .0) (id .0) (b .1)) in
               let q : j ≡ s .0 = distinct j (s .0) (omega (arith, length-view t k)) (omega (arith, length-view t k)) (a .0) (b .0) i in

@@ -1,11 +1,12 @@
 -- The table of K slots: K keys, 2 × K hints, then K rows of six cells.
 use mathlib.Core.Bool.{true, cond}
-use mathlib.Core.List.{List, [], _∷_, _++_}
+use mathlib.Core.List.{List, [], _∷_}
 use mathlib.Core.Path.{_≡_}
 use Prim.Native.Nat.{ℕ, zero, suc, _+_, _*_, _/_, _%_, _<_}
 use lib.Dec.{ltb, leb, eqb}
 use lib.ListN.{length, getD, take, drop, set, replicate}
 use Rattle.frame.specs.declared.header.StreamId.{StreamId}
+use Rattle.chunks.specs.Blocks.{put}
 use Rattle.rules.specs.Lists.{Place, at, nowhere, first, sum}
 use Rattle.rules.specs.State.{one}
 use Rattle.rules.specs.declared.Mode.{Mode}
@@ -21,10 +22,6 @@ size k = 9 * k
 -- where slot i's row starts
 abbrev pub place : ℕ → ℕ → ℕ
 place k i = 3 * k + 6 * i
-
--- the list with b in place of as many elements from a on
-abbrev pub put : List ℕ → ℕ → List ℕ → List ℕ
-put t a b = take a t ++ (b ++ drop (a + length b) t)
 
 -- f 0, f 1, .. as many as n
 abbrev pub tabulate : {A : Type 0} → ℕ → (ℕ → A) → List A
@@ -78,7 +75,7 @@ scanned t k key = foundOf (first (λ c. eqb c key) (take k t))
 abbrev pub lowestFree : List ℕ → ℕ → Found
 lowestFree t k = scanned t k 0
 
--- A slot whose key is the id's; or no key is. With ids of listed rows distinct this is one answer (proofs/Laws, `found`).
+-- A slot whose key is the id's; or no key is. With ids of listed rows distinct this is one answer (proofs/Searches, `found`).
 abbrev pub Finds : List ℕ → ℕ → StreamId → Found → Type 0
 Finds t k id (At s) = (s .0 < k) × (getD t (s .0) 0 ≡ id .0 + 2)
 Finds t k id Nowhere = (i : ℕ) → i < k → getD t i 0 ≡ id .0 + 2 → ⊥

@@ -6,7 +6,7 @@ ghost use Prim.Native.Nat.{_≤_, _<_, min};
 ghost use lib.ListN.{length};
 ghost use Rattle.rules.specs.State.{one, isOwn};
 ghost use Rattle.table.specs.Rows.{blank, isUnacknowledged};
-ghost use Rattle.table.specs.Table.{size, zeros, rowAt, stored, hintPlace, hinted, inserted, ended, scanned, lowestFree, Finds, unacknowledged};
+ghost use Rattle.table.specs.Table.{size, zeros, place, rowAt, stored, hintPlace, hinted, inserted, ended, scanned, lowestFree, Finds, unacknowledged};
 use frame::header::StreamId;
 use row::Row;
 use rules::Mode;
@@ -35,12 +35,19 @@ pub fn init(table: &mut [u64])
     }
 }
 
+// Where the slot's row starts.
+fn place(k: u32, slot: Slot) -> usize
+    ensures { λ r. ⌜ r ≡ place k (slot .0) ⌝ }
+{
+    3 * (k as usize) + 6 * (slot.0 as usize)
+}
+
 // The slot's row.
 pub fn load(table: &[u64], k: u32, slot: Slot) -> Row
     ensures { λ r. ⌜ r ≡ rowAt (now (table .entry)) k (slot .0) ⌝ }
 {
     let i = slot.0 as usize;
-    let a = 3 * (k as usize) + 6 * i;
+    let a = place(k, slot);
     let e = a + 6;
     if e <= table.len() {
         row::unpack(table[i], &table[a..e])
@@ -54,7 +61,7 @@ pub fn store(table: &mut [u64], k: u32, slot: Slot, row: Row)
     ensures { λ _. ⌜ now (table .exit) ≡ stored (now (table .entry)) k (slot .0) row ⌝ }
 {
     let i = slot.0 as usize;
-    let a = 3 * (k as usize) + 6 * i;
+    let a = place(k, slot);
     let e = a + 6;
     if e <= table.len() {
         table[i] = row.key();

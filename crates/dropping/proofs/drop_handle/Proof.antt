@@ -1,10 +1,10 @@
--- `dropping::drop_handle` meets its contract: sizes first, then the time, then the handle. Assumes nothing.
+-- `dropping::drop_handle` meets its contract: sizes first, then the handle. Assumes nothing.
 use mathlib.Core.Path.{sym, _∙_}
 use borrow.Author.Needs.{needs}
 use borrow.Author.Tests.{not-true, not-false}
 use Rattle.rules.specs.Step.{drop}
 use Rattle.connection.proofs.Promises.{wrong-size, refused-gives}
-use Rattle.dropping.proofs.Promises.{late, in-time}
+use Rattle.dropping.proofs.Promises.{refused-drop, held-drop, drop-gives}
 use Rattle.dropping.proofs.drop_handle.Statement.{statement}
 use Rattle.dropping.proofs.drop_handle.Tie as tie
 
@@ -22,19 +22,20 @@ returns c =
       refused-gives _ _ _,
     )
 
+held-row-requires : tie.Need-held-row-requires
+held-row-requires c κs = search needs
+
+enum-known-found : tie.Need-enum-known-found
+enum-known-found c = search needs
+
 refuse-requires-2 : tie.Need-refuse-requires-2
 refuse-requires-2 c κs = search needs
 
-returns-2 : tie.Need-returns-2
-returns-2 c =
-    let a = c .before .before .before .before .before .before .before .args in
-    rw (c .refuse2 .ensures) (
-      λ p. late (a .c) (a .table .now) (a .links .now) p _ (a .slot) (a .time) (sym (c .before .before .before .sized .ensures) ∙ not-false _ (c .before .before .if1 .left)) (c .before .if2 .taken),
-      refused-gives _ _ _,
-    )
+enum-known-found-2 : tie.Need-enum-known-found-2
+enum-known-found-2 c = search needs
 
-drop-held-requires : tie.Need-drop-held-requires
-drop-held-requires c κs = search needs
+release-requires : tie.Need-release-requires
+release-requires c κs = search needs
 
 put-requires : tie.Need-put-requires
 put-requires c κs = search needs
@@ -42,19 +43,33 @@ put-requires c κs = search needs
 same-length : tie.Need-same-length
 same-length c = search needs
 
+returns-2 : tie.Need-returns-2
+returns-2 c =
+    let a = c .before .before .before .before .before .before .before .before .before .before .before .before .args in
+    let right = sym (c .before .before .before .before .before .before .before .before .sized .ensures) ∙ not-false _ (c .before .before .before .before .before .before .before .if1 .left) in
+    let handle = sym (c .before .before .before .before .held-row .ensures) ∙ c .before .before .found .given .1 in
+    rw (c .refuse2 .ensures) (
+      λ p. refused-drop (a .c) (a .table .now) (a .links .now) p _ (a .slot) (a .time) right _ handle,
+      refused-gives _ _ _,
+    )
+
 same-length-2 : tie.Need-same-length-2
 same-length-2 c = search needs
 
 same-length-3 : tie.Need-same-length-3
 same-length-3 c = search needs
 
+same-length-4 : tie.Need-same-length-4
+same-length-4 c = search needs
+
 returns-3 : tie.Need-returns-3
 returns-3 c =
-    let a = c .before .before .before .before .before .before .before .before .before .before .before .before .before .before .before .before .before .before .args in
-    let k = c .before .before .before .before .before .before .before .before .before .drop-held in
-    let right = sym (c .before .before .before .before .before .before .before .before .before .before .before .before .before .before .sized .ensures) ∙ not-false _ (c .before .before .before .before .before .before .before .before .before .before .before .before .before .if1 .left) in (
-      λ p. in-time (a .c) (a .table .now) (a .links .now) p _ (a .slot) (a .time) right (c .before .before .before .before .before .before .before .before .before .before .before .before .if2 .left) (k .result) (k .last .1 .0) (k .last .1 .1 .0) (k .ensures),
-      record { header = c .before .before .put .ensures; only = k .ensures .only },
+    let a = c .before .before .before .before .before .before .before .before .before .before .before .before .before .before .before .before .before .before .before .before .before .before .before .args in
+    let k = c .before .before .before .before .before .before .before .before .before .release in
+    let right = sym (c .before .before .before .before .before .before .before .before .before .before .before .before .before .before .before .before .before .before .before .sized .ensures) ∙ not-false _ (c .before .before .before .before .before .before .before .before .before .before .before .before .before .before .before .before .before .before .if1 .left) in
+    let handle = sym (c .before .before .before .before .before .before .before .before .before .before .before .before .before .before .before .held-row .ensures) ∙ c .before .before .before .before .before .before .before .before .before .before .before .before .before .found2 .given .1 in (
+      λ p. held-drop (a .c) (a .table .now) (a .links .now) p _ (a .slot) (a .time) right _ handle (k .result) (k .last .1 .0) (k .last .1 .1 .0) (k .ensures),
+      drop-gives (a .c) (a .table .now) (a .links .now) (a .slot) _ (k .result) (k .last .1 .0) (k .last .1 .1 .0) _ _ (k .ensures) (c .before .before .put .ensures),
     )
 
 pub drop-handle-spec : {M : Type 1} → statement M
@@ -64,11 +79,15 @@ drop-handle-spec =
     sized-requires
     refuse-requires
     returns
+    held-row-requires
+    enum-known-found
     refuse-requires-2
-    returns-2
-    drop-held-requires
+    enum-known-found-2
+    release-requires
     put-requires
     same-length
+    returns-2
     same-length-2
     same-length-3
+    same-length-4
     returns-3)

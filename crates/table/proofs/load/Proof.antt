@@ -6,21 +6,15 @@ use borrow.Author.Tests.{le-leb, lt-leb}
 use borrow.Author.Needs.{needs}
 use lib.ListN.{getD, take, drop}
 use Rattle.table.specs.Rows.{rowOf}
-use Rattle.table.specs.Table.{place, rowAt}
+use Rattle.table.specs.Table.{rowAt}
 use Rattle.table.proofs.load.Statement.{statement}
 use Rattle.table.proofs.load.Tie as tie
 
 cast-i : tie.Need-cast-i
 cast-i c = search needs
 
-mul-a : tie.Need-mul-a
-mul-a c = search needs
-
-mul-a-2 : tie.Need-mul-a-2
-mul-a-2 c = search needs
-
-add-a : tie.Need-add-a
-add-a c = search needs
+place-requires : tie.Need-place-requires
+place-requires c κs = search needs
 
 add-e : tie.Need-add-e
 add-e c = search needs
@@ -52,23 +46,21 @@ blank-requires c κs = search needs
 returns : tie.Need-returns
 unfolding rowAt
 returns c =
-    let a = c .before .before .before .before .before .before .args in
-    let p : ℕ = place (a .k) (a .slot .0) in
-    let e : p + 6 - p ≡ 6 = omega arith in
-    rw (le-leb _ _ (c .before .before .before .if1 .taken)) (c .unpack .ensures ∙ ap (λ (n : ℕ). rowOf (getD (a .table .now) (a .slot .0) 0) (take n (drop p (a .table .now)))) e)
+    let p = c .before .before .before .before .place in
+    let a = c .before .before .before .before .before .before .before .args in
+    let e : p .result + 6 - p .result ≡ 6 = omega arith in
+    rw (← p .ensures, le-leb _ _ (c .before .before .before .if1 .taken)) (c .unpack .ensures ∙ ap (λ (n : ℕ). rowOf (getD (a .table .now) (a .slot .0) 0) (take n (drop (p .result) (a .table .now)))) e)
 
 returns-2 : tie.Need-returns-2
 unfolding rowAt
-returns-2 c = rw (lt-leb _ _ (c .before .if1 .left)) (c .blank .ensures)
+returns-2 c = rw (← c .before .before .place .ensures, lt-leb _ _ (c .before .if1 .left)) (c .blank .ensures)
 
 pub load-spec : {M : Type 1} → statement M
 load-spec =
     tie.close
     (tie.spec
     cast-i
-    mul-a
-    mul-a-2
-    add-a
+    place-requires
     add-e
     mul-unpack
     shared-slice-read-unpack

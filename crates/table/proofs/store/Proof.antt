@@ -6,7 +6,7 @@ use borrow.Author.Tests.{le-leb, lt-leb}
 use borrow.Author.Needs.{needs}
 use lib.ListN.{set, length-set}
 use Rattle.table.specs.Rows.{cellsOf}
-use Rattle.table.specs.Table.{place, stored}
+use Rattle.table.specs.Table.{stored}
 use Rattle.table.proofs.Parts.{put-part}
 use Rattle.table.proofs.store.Statement.{statement}
 use Rattle.table.proofs.store.Tie as tie
@@ -14,14 +14,8 @@ use Rattle.table.proofs.store.Tie as tie
 cast-i : tie.Need-cast-i
 cast-i c = search needs
 
-mul-a : tie.Need-mul-a
-mul-a c = search needs
-
-mul-a-2 : tie.Need-mul-a-2
-mul-a-2 c = search needs
-
-add-a : tie.Need-add-a
-add-a c = search needs
+place-requires : tie.Need-place-requires
+place-requires c κs = search needs
 
 add-e : tie.Need-add-e
 add-e c = search needs
@@ -51,28 +45,29 @@ pack-requires : tie.Need-pack-requires
 pack-requires c κs = search needs
 
 same-length : tie.Need-same-length
-same-length c = omega (arith, length-set (c .before .before .before .before .before .before .before .before .args .table .now) (c .before .before .before .before .before .before .before .before .args .slot .0) (c .before .before .before .before .key .result))
+same-length c =
+    let a = c .before .before .before .before .before .before .before .before .before .args in
+    omega (arith, length-set (a .table .now) (a .slot .0) (c .before .before .before .before .key .result))
 
 returns : tie.Need-returns
 unfolding stored
 returns c =
-    let a = c .before .before .before .before .before .before .before .before .args in
-    let p : ℕ = place (a .k) (a .slot .0) in
-    let e : p + 6 - p ≡ 6 = omega arith in
-    rw (le-leb _ _ (c .before .before .before .before .before .if1 .taken), ← c .before .before .before .before .key .ensures) (put-part (set (a .table .now) (a .slot .0) (c .before .before .before .before .key .result)) (cellsOf (a .row)) _ p (p + 6 - p) e (c .before .before .pack .ensures))
+    let a = c .before .before .before .before .before .before .before .before .before .args in
+    let p = c .before .before .before .before .before .before .place in
+    let k = c .before .before .before .before .key in
+    let e : p .result + 6 - p .result ≡ 6 = omega arith in
+    rw (← p .ensures, le-leb _ _ (c .before .before .before .before .before .if1 .taken), ← k .ensures) (put-part (set (a .table .now) (a .slot .0) (k .result)) (cellsOf (a .row)) _ (p .result) (p .result + 6 - p .result) e (c .before .before .pack .ensures))
 
 returns-2 : tie.Need-returns-2
 unfolding stored
-returns-2 c = rw (lt-leb _ _ (c .if1 .left))
+returns-2 c = rw (← c .before .place .ensures, lt-leb _ _ (c .if1 .left))
 
 pub store-spec : {M : Type 1} → statement M
 store-spec =
     tie.close
     (tie.spec
     cast-i
-    mul-a
-    mul-a-2
-    add-a
+    place-requires
     add-e
     key-requires
     mul-table

@@ -17,14 +17,14 @@ pace-of-requires c κs = search needs
 enum-told : tie.Need-enum-told
 enum-told c = search needs
 
-granted-requires : tie.Need-granted-requires
-granted-requires c κs = search needs
+keep-requires : tie.Need-keep-requires
+keep-requires c κs = search needs
 
 enum-told-2 : tie.Need-enum-told-2
 enum-told-2 c = search needs
 
-granted-requires-2 : tie.Need-granted-requires-2
-granted-requires-2 c κs = search needs
+keep-requires-2 : tie.Need-keep-requires-2
+keep-requires-2 c κs = search needs
 
 enum-told-3 : tie.Need-enum-told-3
 enum-told-3 c = search needs
@@ -39,13 +39,13 @@ returns-2 : tie.Need-returns-2
 returns-2 c =
     let p = c .before .before .before in
     let d = p .before .before .before .due .ensures in
-    rw (c .granted .ensures, d, le-leb _ _ (rw d at (p .before .if1 .left)), sym (p .pace-of .ensures) ∙ c .before .enum-told .given .1)
+    rw (c .keep .ensures, d, le-leb _ _ (rw d at (p .before .if1 .left)), sym (p .pace-of .ensures) ∙ c .before .enum-told .given .1)
 
 returns-3 : tie.Need-returns-3
 returns-3 c =
     let p = c .before .before .before in
     let d = p .before .before .before .due .ensures in
-    rw (c .granted2 .ensures, d, le-leb _ _ (rw d at (p .before .if1 .left)), sym (p .pace-of .ensures) ∙ c .before .enum-told2 .given .1)
+    rw (c .keep2 .ensures, d, le-leb _ _ (rw d at (p .before .if1 .left)), sym (p .pace-of .ensures) ∙ c .before .enum-told2 .given .1)
 
 returns-4 : tie.Need-returns-4
 returns-4 c =
@@ -62,9 +62,9 @@ window-updated-spec =
     returns
     pace-of-requires
     enum-told
-    granted-requires
+    keep-requires
     enum-told-2
-    granted-requires-2
+    keep-requires-2
     enum-told-3
     budget-requires
     grow-requires

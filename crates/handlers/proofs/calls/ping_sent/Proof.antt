@@ -15,13 +15,16 @@ no-action-requires c κs = search needs
 returns : tie.Need-returns
 returns c = rw (c .before .enum-told .given .1, c .no-action .ensures)
 
+id-requires : tie.Need-id-requires
+id-requires c κs = search needs
+
 done-requires : tie.Need-done-requires
 done-requires c κs = search needs
 
 returns-2 : tie.Need-returns-2
-returns-2 c = rw (c .before .before .ping .given .1, c .done .ensures)
+returns-2 c = rw (c .before .before .before .ping .given .1, c .done .ensures, c .before .id .ensures)
 
 pub ping-sent-spec : {M : Type 1} → statement M
 ping-sent-spec =
     tie.close
-    (tie.spec enum-known-ping enum-told no-action-requires returns done-requires returns-2)
+    (tie.spec enum-known-ping enum-told no-action-requires returns id-requires done-requires returns-2)

@@ -20,6 +20,9 @@ returns c = rw (c .before .enum-told .given .1, c .no-action .ensures)
 contains-requires : tie.Need-contains-requires
 contains-requires c κs = search needs
 
+credit-requires : tie.Need-credit-requires
+credit-requires c κs = search needs
+
 on-window-update-requires : tie.Need-on-window-update-requires
 on-window-update-requires c κs = search needs
 
@@ -28,7 +31,7 @@ update-take-requires c κs = search needs
 
 returns-2 : tie.Need-returns-2
 unfolding onKnownUpdate
-returns-2 c = rw (c .before .before .before .before .before .known .given .1, c .update-take .ensures, c .before .on-window-update .ensures, c .before .before .contains .ensures)
+returns-2 c = rw (c .before .before .before .before .before .before .known .given .1, c .update-take .ensures, c .before .on-window-update .ensures, c .before .before .credit .ensures, c .before .before .before .contains .ensures)
 
 pub on-known-update-spec : {M : Type 1} → statement M
 on-known-update-spec =
@@ -39,6 +42,7 @@ on-known-update-spec =
     no-action-requires
     returns
     contains-requires
+    credit-requires
     on-window-update-requires
     update-take-requires
     returns-2)

@@ -5,6 +5,9 @@ use Rattle.handlers.specs.Actions.{onPing}
 use Rattle.handlers.proofs.ping.on_ping.Statement.{statement}
 use Rattle.handlers.proofs.ping.on_ping.Tie as tie
 
+id-requires : tie.Need-id-requires
+id-requires c κs = search needs
+
 contains-requires : tie.Need-contains-requires
 contains-requires c κs = search needs
 
@@ -16,7 +19,7 @@ pong-heard-requires c κs = search needs
 
 returns : tie.Need-returns
 unfolding onPing
-returns c = rw (c .pong-heard .ensures, c .before .handle-pong .ensures, sym (c .before .before .before .contains .ensures) ∙ c .before .before .if1 .taken)
+returns c = rw (c .pong-heard .ensures, c .before .handle-pong .ensures, c .before .before .before .before .id .ensures, sym (c .before .before .before .contains .ensures) ∙ c .before .before .if1 .taken)
 
 is-session-requires : tie.Need-is-session-requires
 is-session-requires c κs = search needs
@@ -26,14 +29,14 @@ ping-heard-requires c κs = search needs
 
 returns-2 : tie.Need-returns-2
 unfolding onPing
-returns-2 c = rw (c .ping-heard .ensures, sym (c .before .before .before .before .before .contains .ensures) ∙ c .before .before .before .before .if1 .left, sym (c .before .before .is-session .ensures) ∙ c .before .if2 .taken)
+returns-2 c = rw (c .ping-heard .ensures, c .before .before .before .before .before .before .id .ensures, sym (c .before .before .before .before .before .contains .ensures) ∙ c .before .before .before .before .if1 .left, sym (c .before .before .is-session .ensures) ∙ c .before .if2 .taken)
 
 ping-heard-requires-2 : tie.Need-ping-heard-requires-2
 ping-heard-requires-2 c κs = search needs
 
 returns-3 : tie.Need-returns-3
 unfolding onPing
-returns-3 c = rw (c .ping-heard2 .ensures, sym (c .before .before .before .before .before .before .contains .ensures) ∙ c .before .before .before .before .before .if1 .left, sym (c .before .before .before .is-session .ensures) ∙ c .before .before .if2 .left, c .before .if3 .taken)
+returns-3 c = rw (c .ping-heard2 .ensures, c .before .before .before .before .before .before .before .id .ensures, sym (c .before .before .before .before .before .before .contains .ensures) ∙ c .before .before .before .before .before .if1 .left, sym (c .before .before .before .is-session .ensures) ∙ c .before .before .if2 .left, c .before .if3 .taken)
 
 no-action-requires : tie.Need-no-action-requires
 no-action-requires c κs = search needs
@@ -46,6 +49,7 @@ pub on-ping-spec : {M : Type 1} → statement M
 on-ping-spec =
     tie.close
     (tie.spec
+    id-requires
     contains-requires
     handle-pong-requires
     pong-heard-requires

@@ -11,6 +11,9 @@ contains-requires c κs = search needs
 new-inbound-requires : tie.Need-new-inbound-requires
 new-inbound-requires c κs = search needs
 
+credit-requires : tie.Need-credit-requires
+credit-requires c κs = search needs
+
 on-window-update-requires : tie.Need-on-window-update-requires
 on-window-update-requires c κs = search needs
 
@@ -25,17 +28,19 @@ protocol-error-requires c κs = search needs
 
 returns : tie.Need-returns
 returns c =
-    let over = update-refused (c .before .before .before .before .new-inbound .result) (record { 0 = c .before .before .before .before .before .before .before .args .header .length .0 }) (c .before .before .before .before .before .contains .result) (sym (c .before .before .before .on-window-update .ensures) ∙ c .before .enum-told .given .1) in
-    rw (rw (c .before .before .before .before .new-inbound .ensures) at over, c .protocol-error .ensures)
+    let n = c .before .before .before .before in
+    let over = update-refused (n .before .new-inbound .result) (n .credit .result) (n .before .before .contains .result) (sym (c .before .before .before .on-window-update .ensures) ∙ c .before .enum-told .given .1) in
+    rw (rw (n .before .new-inbound .ensures, n .credit .ensures) at over, c .protocol-error .ensures)
 
 new-action-requires : tie.Need-new-action-requires
 new-action-requires c κs = search needs
 
 returns-2 : tie.Need-returns-2
 returns-2 c =
-    let d = update-taken (c .before .before .before .before .before .new-inbound .result) (record { 0 = c .before .before .before .before .before .before .before .before .args .header .length .0 }) (c .before .before .before .before .before .before .contains .result) _ _ (sym (c .before .before .before .before .on-window-update .ensures) ∙ c .before .before .received .given .1) in
-    let a = c .before .before .before .before .before .before .before .before .args in
-    rw (c .new-action .ensures, d .1, rw (c .before .before .before .before .before .new-inbound .ensures) at (d .0), c .before .before .before .before .before .new-inbound .ensures, c .before .before .before .before .before .before .contains .ensures, opened (a .header) (a .now))
+    let n = c .before .before .before .before .before in
+    let a = n .before .before .before .before .args in
+    let d = update-taken (n .before .new-inbound .result) (n .credit .result) (n .before .before .contains .result) _ _ (sym (c .before .before .before .before .on-window-update .ensures) ∙ c .before .before .received .given .1) in
+    rw (c .new-action .ensures, d .1, rw (n .before .new-inbound .ensures, n .credit .ensures) at (d .0), n .before .new-inbound .ensures, n .credit .ensures, n .before .before .contains .ensures, opened (a .header) (a .now))
 
 pub first-update-spec : {M : Type 1} → statement M
 first-update-spec =
@@ -43,6 +48,7 @@ first-update-spec =
     (tie.spec
     contains-requires
     new-inbound-requires
+    credit-requires
     on-window-update-requires
     enum-known-received
     enum-told

@@ -10,6 +10,9 @@ returns c = rw (lt-leb _ _ (c .if1 .taken))
 returns-2 : tie.Need-returns-2
 returns-2 c = rw (le-leb _ _ (c .before .before .if1 .left), lt-leb _ _ (c .if2 .taken))
 
+cast-if3 : tie.Need-cast-if3
+cast-if3 c = search needs
+
 mul-if3 : tie.Need-mul-if3
 mul-if3 c = search needs
 
@@ -43,6 +46,7 @@ check-spec =
     (tie.spec
     returns
     returns-2
+    cast-if3
     mul-if3
     returns-3
     returns-4

@@ -1,10 +1,8 @@
--- `calls::held_row` meets its contract: each return is what the definition gives by the tests that led there. Assumes nothing.
-use mathlib.Core.Path.{sym, ap, _∙_}
+-- `connection::held_row` meets its contract: each return is what the definition gives by the tests that led there. Assumes nothing.
 use borrow.Author.Tests.{lt-ltb, le-ltb, le-leb, lt-leb}
 use borrow.Author.Needs.{needs}
-use Rattle.table.specs.declared.row.Row.{Row}
-use Rattle.calls.proofs.held_row.Statement.{statement}
-use Rattle.calls.proofs.held_row.Tie as tie
+use Rattle.connection.proofs.held_row.Statement.{statement}
+use Rattle.connection.proofs.held_row.Tie as tie
 
 returns : tie.Need-returns
 returns c = rw (lt-ltb _ _ (c .if1 .taken))

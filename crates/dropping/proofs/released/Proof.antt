@@ -1,0 +1,16 @@
+-- `dropping::released` meets its contract. Assumes nothing.
+use borrow.Author.Needs.{needs}
+use Rattle.dropping.proofs.released.Statement.{statement}
+use Rattle.dropping.proofs.released.Tie as tie
+
+with-growth-requires : tie.Need-with-growth-requires
+with-growth-requires c κs = search needs
+
+with-memory-requires : tie.Need-with-memory-requires
+with-memory-requires c κs = search needs
+
+returns : tie.Need-returns
+returns c = rw (c .with-memory .ensures, c .before .with-growth .ensures)
+
+pub released-spec : {M : Type 1} → statement M
+released-spec = tie.close (tie.spec with-growth-requires with-memory-requires returns)
