@@ -15,9 +15,9 @@ use Rattle.stream.specs.declared.Stream.{Stream}
 use Rattle.rules.specs.Lists.{Place, at, nowhere}
 use Rattle.rules.specs.State.{Entry, Conn, vacant, entry, one, hasId, listedCount, unreadTotal, room, withStream, withSlot, withOpenWait}
 use Rattle.rules.specs.Frames.{Acked, isKnown, ackStep, acknowledgeAt}
-use Rattle.rules.proofs.Lists.{Says, sum-set}
+use Rattle.rules.proofs.Lists.{Says, sum-set, both}
 use Rattle.demands.specs.Demands.{heldCount}
-use Rattle.demands.proofs.Lists.{split, both, true-not-false, at-set}
+use Rattle.demands.proofs.Lists.{split, true-not-false, at-set}
 use Rattle.demands.proofs.Invariant.{Inv, Stays, held-good, stays}
 use Rattle.demands.proofs.Sound.{bytesOf, bytes-same}
 

@@ -27,11 +27,11 @@ use Rattle.rules.specs.Ending.{Result}
 use Rattle.rules.specs.Frames.{Acked, ackStep, answer, whose, newEntry, makeAt, make, isKnown, synRules, takenEntry, takeAt, bodyLength, frameRules, onHeader}
 use Rattle.rules.specs.Step.{onDecoded, step}
 use Rattle.rules.specs.Step as rules
-use Rattle.rules.proofs.Lists.{Says, first-says}
+use Rattle.rules.proofs.Lists.{Says, first-says, both}
 use Rattle.demands.specs.Demands.{Reach, heldCount, admits}
 use Rattle.demands.specs.Theorems.{Gave}
 use Rattle.demands.specs.Progress.{FrameFor, InLowest}
-use Rattle.demands.proofs.Lists.{both, true-not-false, sum-full}
+use Rattle.demands.proofs.Lists.{true-not-false, sum-full}
 use Rattle.demands.proofs.Invariant.{Inv}
 use Rattle.demands.proofs.Acks.{Acks, Located, after-ack, unmoved, acknowledges}
 use Rattle.demands.proofs.Steps.{reached}

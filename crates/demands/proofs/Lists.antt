@@ -23,10 +23,6 @@ split P false f g = g refl
 pub true-not-false : {P : Type 0} {b : Bool} → b ≡ true → b ≡ false → P
 true-not-false t f = absurd (subst T (sym t ∙ f) tt)
 
-pub both : (a b : Bool) → cond a b false ≡ true → (a ≡ true) × (b ≡ true)
-both true b e = (refl, e)
-both false b e = true-not-false e refl
-
 -- ---- one element changed
 
 module _ {A : Type 0} where

@@ -29,7 +29,8 @@ use Rattle.rules.specs.Step as rules
 use Rattle.demands.specs.Demands.{Reach, new, then, wouldOpen, opensDecoded}
 use Rattle.demands.specs.Handles.{about, aboutDecoded}
 use Rattle.demands.specs.History.{Event, nothing, gaveOut, event, byFrame}
-use Rattle.demands.proofs.Lists.{split, both, true-not-false, getD-same, sum-none}
+use Rattle.rules.proofs.Lists.{both}
+use Rattle.demands.proofs.Lists.{split, true-not-false, getD-same, sum-none}
 use Rattle.demands.proofs.Invariant.{Allowed, Inv, vacant-good}
 use Rattle.demands.proofs.Sound.{Sound, left, same-put, bytesOf, refused-plain, ends}
 use Rattle.demands.proofs.Frames.{headers}

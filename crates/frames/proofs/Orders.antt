@@ -28,18 +28,18 @@ use Rattle.rules.specs.Frames.{pingRules, isKnown, frameRules, bodyLength, onHe
 use Rattle.rules.specs.Step.{step, frame, timed, live, onDecoded}
 use Rattle.rules.specs.declared.Reply.{Reply}
 use Rattle.rules.specs.declared.Reply.the-variants as reply
+use Rattle.rules.proofs.Lists.{both}
 use Rattle.table.specs.Table.{foundOf, Finds}
 use Rattle.table.specs.declared.Found.{Found}
 use Rattle.handlers.specs.Actions.{pongHeard, pingHeard, noAction, onPing}
-use Rattle.handlers.specs.declared.Pong.{Pong}
 use Rattle.handlers.proofs.Rules.{heardBy, ping-performs}
 use Rattle.memory.specs.Counts.{fits}
 use Rattle.memory.specs.Slots.{slotsOf}
 use Rattle.memory.proofs.Laws.{never, find-slots}
-use Rattle.memory.proofs.Starts.{nothing-advances}
 use Rattle.connection.specs.Abstract.{absOf, Valid}
+use Rattle.connection.specs.Parts.{pinged}
 use Rattle.connection.specs.Promises.{refused, gateOf, Follows, Promised, Over}
-use Rattle.connection.proofs.Promises.{giving-leaves}
+use Rattle.connection.proofs.Promises.{giving-leaves, answer-follows}
 use Rattle.connection.proofs.Tests.{gate-shut, gate-open}
 use Rattle.connection.specs.declared.Connection.{Connection}
 use Rattle.connection.specs.declared.Done.{Done}
@@ -50,22 +50,6 @@ use Rattle.frames.proofs.Settling.{refused-handles, over-handles}
 use Rattle.frames.proofs.Arrives.{same-handles}
 
 -- ---- Ping
-
--- the pings after a Ping frame, and its answer
-abbrev pub heardIn : Connection → Pong → Done
-heardIn c q = record {
-  connection = record {
-    config = c .config;
-    rtt = q .rtt;
-    ended = c .ended;
-    «next_id» = c .«next_id»;
-    «open_wait» = c .«open_wait»;
-    growth = c .growth;
-    memory = c .memory;
-  };
-  answer = q .answer;
-  read = 0;
-}
 
 pong-gives : (r : Rtt) (q : heard.Pong) → mayGive (pongHeard r q .answer .reply) ≡ true
 pong-gives r Unexpected = refl
@@ -86,27 +70,20 @@ found-known (at i) = refl
 found-known nowhere = refl
 
 pub ping-handles : (c : Connection) (t : List ℕ) (h : Header) (now : ℕ) (f : Found) → Finds t (c .memory .slots) (h .«stream_id») f → (l p : List ℕ)
-    → Handles (λ x. pingRules x h now) c t l p (heardIn c (onPing (c .rtt) (isFound f) h now (c .config .interval))) t l p
+    → Handles (λ x. pingRules x h now) c t l p (pinged c (onPing (c .rtt) (isFound f) h now (c .config .interval))) t l p
 ping-handles c t h now f finds l p = record {
   steps = follows;
   refuses = λ e. never (sym e ∙ giving-leaves (onPing (c .rtt) (isFound f) h now (c .config .interval) .answer .reply) (ping-gives (c .rtt) (isFound f) h now (c .config .interval)));
   silent = λ e. never (sym (ping-gives (c .rtt) (isFound f) h now (c .config .interval)) ∙ e);
 }
   where
-    pinged : (q : Pong) → Valid c t l p → Follows c t l p (heardBy (absOf c t l p) q) (heardIn c q) t l p
-    pinged q v = record {
-      valid = record { memory = v .memory; slots = v .slots; pool = v .pool; fresh = record { parity = v .fresh .parity; below = v .fresh .below } };
-      after = refl;
-      advances = nothing-advances (c .memory) t l p (v .memory);
-      says = record { reply = refl; slot = refl; value = refl; sent = refl; wakes = refl };
-      read = refl;
-    }
-
     known : Valid c t l p → isFound f ≡ isKnown (find (slotsOf (c .memory) t l p) (h .«stream_id»))
     known v = ap isFound (find-slots (c .memory) t l p (v .memory) (h .«stream_id») f finds) ∙ found-known (find (slotsOf (c .memory) t l p) (h .«stream_id»))
 
-    follows : Valid c t l p → Follows c t l p (pingRules (absOf c t l p) h now) (heardIn c (onPing (c .rtt) (isFound f) h now (c .config .interval))) t l p
-    follows v = rw (ping-performs (absOf c t l p) h now, ← known v) (pinged (onPing (c .rtt) (isFound f) h now (c .config .interval)) v)
+    follows : Valid c t l p → Follows c t l p (pingRules (absOf c t l p) h now) (pinged c (onPing (c .rtt) (isFound f) h now (c .config .interval))) t l p
+    follows v =
+        let q = onPing (c .rtt) (isFound f) h now (c .config .interval) in
+        rw (ping-performs (absOf c t l p) h now, ← known v) (answer-follows c t l p (q .rtt) (c .«open_wait») (q .answer) v)
 
 -- ---- the type
 
@@ -153,10 +130,6 @@ module _ (c : Connection) (t l p : List ℕ) (f : Decoded) (body : List ℕ) (no
 
 -- ---- the call
 
-both-true : (a b : Bool) → cond a b false ≡ true → (a ≡ true) × (b ≡ true)
-both-true true b e = (refl, e)
-both-true false b e = never (sym e)
-
 -- twelve bytes are never found of the wrong size
 twelve : (head : List ℕ) → eqb (length head) 12 ≡ true → decoded head ≡ found.Size → ⊥
 twelve head e q = go (typeOf (getD head 1 0)) (eqb (getD head 0 0) 0) (rw e at q)
@@ -195,5 +168,5 @@ module _ (c : Connection) (t l p head body : List ℕ) (now sent : ℕ) where
     where
       given : eqb (length head) 12 ≡ true
       given =
-          let q = both-true (fits (c .memory) (length t) (length l) (length p)) (cond (eqb sent 12) (eqb (length head) 12) false) e in
-          both-true (eqb sent 12) (eqb (length head) 12) (q .1) .1
+          let q = both (fits (c .memory) (length t) (length l) (length p)) (cond (eqb sent 12) (eqb (length head) 12) false) e in
+          both (eqb sent 12) (eqb (length head) 12) (q .1) .1

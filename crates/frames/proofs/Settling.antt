@@ -20,10 +20,9 @@ use Rattle.memory.specs.Moves.{Moved, held, Stores, Feeds, Makes}
 use Rattle.memory.specs.Slots.{slotsOf}
 use Rattle.memory.specs.declared.Memory.{Memory}
 use Rattle.memory.proofs.Laws.{never, slots-length}
-use Rattle.memory.proofs.Starts.{nothing-advances}
 use Rattle.connection.specs.Abstract.{absOf, Valid, Fresh}
 use Rattle.connection.specs.Promises.{refused, Follows, Over}
-use Rattle.connection.proofs.Promises.{giving-leaves, refuse-follows}
+use Rattle.connection.proofs.Promises.{giving-leaves, refuse-follows, answer-follows}
 use Rattle.connection.proofs.Ids.{below-set}
 use Rattle.rules.specs.Replies.{leavesAll, mayGive}
 use Rattle.connection.specs.declared.Connection.{Connection}
@@ -101,13 +100,7 @@ module _ (c : Connection) (t l p : List ℕ) (wait : Bool) (o : Answer) (m′ : 
   answer-handles body el given em et ep = acted _ given follows
     where
       follows : Valid c t l p → Follows c t l p (gives (outcomeOf o) a) d t′ l′ p′
-      follows v = rw (el, em, et, ep) (record {
-        valid = record { memory = v .memory; slots = v .slots; pool = v .pool; fresh = record { parity = v .fresh .parity; below = v .fresh .below } };
-        after = refl;
-        advances = nothing-advances (c .memory) t l p (v .memory);
-        says = record { reply = refl; slot = refl; value = refl; sent = refl; wakes = refl };
-        read = refl;
-      })
+      follows v = rw (el, em, et, ep) (answer-follows c t l p (c .rtt) wait o v)
 
   pub store-handles : (body : List ℕ) (row : Row) (i : Slot) (s : Stream) (listed : Bool) → mayGive (o .reply) ≡ true
       → (Valid c t l p → Replaces c t l p row (i .0) s listed)

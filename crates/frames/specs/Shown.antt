@@ -17,6 +17,7 @@ use Rattle.table.specs.Rows.{blank}
 use Rattle.table.specs.Table.{rowAt}
 use Rattle.table.specs.declared.Found.{Found}
 use Rattle.table.specs.declared.Found.the-variants as found
+use Rattle.connection.specs.Parts.{withMemory, withOpens}
 use Rattle.connection.specs.Promises.{vacancyIn}
 use Rattle.connection.specs.declared.Connection.{Connection}
 use Rattle.connection.specs.declared.Done.{Done}
@@ -72,16 +73,4 @@ decided isData r h now =
 
 -- the connection with this open wait and this memory, and the answer
 abbrev pub settled : Connection → Bool → Memory → Answer → Done
-settled c wait m a = record {
-  connection = record {
-    config = c .config;
-    rtt = c .rtt;
-    ended = c .ended;
-    «next_id» = c .«next_id»;
-    «open_wait» = wait;
-    growth = c .growth;
-    memory = m;
-  };
-  answer = a;
-  read = 0;
-}
+settled c wait m a = record { connection = withMemory (withOpens c (c .«next_id») wait) m; answer = a; read = 0 }

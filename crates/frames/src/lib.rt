@@ -29,18 +29,9 @@ use table::row::Row;
 fn settled(c: Connection, open_wait: bool, memory: Memory, answer: Answer) -> Done
     ensures { λ r. ⌜ r ≡ settled c «open_wait» memory answer ⌝ }
 {
-    let config = c.config;
-    let rtt = c.rtt;
+    let connection = c.with_opens(c.next_id, open_wait).with_memory(memory);
     Done {
-        connection: Connection {
-            config,
-            rtt,
-            ended: c.ended,
-            next_id: c.next_id,
-            open_wait,
-            growth: c.growth,
-            memory,
-        },
+        connection,
         answer,
         read: 0,
     }
@@ -144,18 +135,10 @@ fn on_ping(c: Connection, table: &[u64], header: Header, time: u64) -> Done
     let found = table::find(table, memory.slots, header.stream_id);
     let in_table = is_found(found);
     let pong = handlers::ping::on_ping(rtt, in_table, header, time, config.interval);
-    let after = pong.rtt;
+    let connection = c.with_rtt(pong.rtt);
     let answer = pong.answer;
     Done {
-        connection: Connection {
-            config,
-            rtt: after,
-            ended: c.ended,
-            next_id: c.next_id,
-            open_wait: c.open_wait,
-            growth: c.growth,
-            memory,
-        },
+        connection,
         answer,
         read: 0,
     }

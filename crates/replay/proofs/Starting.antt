@@ -7,7 +7,7 @@ use native.Mathlib.Omega.{arith}
 use lib.Dec.{leb}
 use lib.ListN.{length}
 use borrow.Author.Tests.{leb-true}
-use Rattle.memory.proofs.Laws.{never}
+use Rattle.rules.proofs.Lists.{both}
 use Rattle.rules.specs.Settings.{checked}
 use Rattle.rules.specs.declared.Settings.{Settings}
 use Rattle.rules.specs.declared.Config.{Config}
@@ -29,10 +29,6 @@ pub record Fits (z : Sizes) : Type 0 where
   pub table : z .table ≤ 2700
   pub links : z .links ≤ 616
   pub pool : z .pool ≤ 630784
-
-both : (a b : Bool) → cond a b false ≡ true → (a ≡ true) × (b ≡ true)
-both true b e = (refl, e)
-both false b e = never (sym e)
 
 small-fits : (k : Config) → isSmall k ≡ true → Fits (sizesOf k)
 small-fits k e =

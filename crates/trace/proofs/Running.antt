@@ -9,6 +9,7 @@ use lib.Dec.{eqb}
 use lib.ListN.{length, length-append}
 use borrow.Author.Tests.{eqb-true}
 use lib.Seq.{sets}
+use Rattle.rules.proofs.Lists.{both}
 use Rattle.connection.specs.Abstract.{absOf, Valid}
 use Rattle.connection.specs.declared.Connection.{Connection}
 use Rattle.lines.proofs.Stored.{sets-then}
@@ -194,10 +195,6 @@ module _ (sz : Bool) (c : Connection) (t l p sent bytes s o : List ℕ) (place :
       wrong = λ w. never (sym e ∙ w);
       bounds = x .bounds;
     }
-
-both : (a b : Bool) → cond a b false ≡ true → (a ≡ true) × (b ≡ true)
-both true b e = (refl, e)
-both false b e = never (sym e)
 
 -- the right sizes
 pub sizes : (c : Connection) (t l p sent bytes : ℕ) → sized c t l p sent bytes ≡ true → (sent ≡ 12) × (bytes ≡ 16384)

@@ -1,0 +1,16 @@
+-- `frames::settled` meets its contract. Assumes nothing.
+use borrow.Author.Needs.{needs}
+use Rattle.frames.proofs.settled.Statement.{statement}
+use Rattle.frames.proofs.settled.Tie as tie
+
+with-opens-requires : tie.Need-with-opens-requires
+with-opens-requires c κs = search needs
+
+with-memory-requires : tie.Need-with-memory-requires
+with-memory-requires c κs = search needs
+
+returns : tie.Need-returns
+returns c = rw (c .with-memory .ensures, c .before .with-opens .ensures)
+
+pub settled-spec : {M : Type 1} → statement M
+settled-spec = tie.close (tie.spec with-opens-requires with-memory-requires returns)
