@@ -45,7 +45,7 @@ use Rattle.connection.specs.declared.Connection.{Connection}
 use Rattle.connection.specs.declared.Done.{Done}
 use Rattle.connection.specs.declared.Gate.the-variants as gate
 use Rattle.frames.specs.Shown.{isFound}
-use Rattle.frames.specs.Handles.{Handles, HandlesPing, HandlesHeader, opened, HandlesFound, HandlesDecoded, sized}
+use Rattle.frames.specs.Handles.{Handles, HandlesPing, HandlesHeader, foundRules, HandlesFound, HandlesDecoded, sized}
 use Rattle.frames.proofs.Settling.{refused-handles, over-handles}
 use Rattle.frames.proofs.Arrives.{same-handles}
 
@@ -120,13 +120,13 @@ module _ (c : Connection) (t l p : List ℕ) (h : Header) (body : List ℕ) (now
 module _ (c : Connection) (t l p : List ℕ) (f : Decoded) (body : List ℕ) (now : ℕ) where
   pub shut-gate : (r : Reply) → gateOf (c .ended) now ≡ gate.Shut r → HandlesDecoded c t l p f body now (refused c r) t l p
   shut-gate r e =
-      same-handles c t l p (λ x. refuse x r) (λ x. timed x now (live x (opened f x body now))) (refused c r) t l p
-      (λ v. gate-shut (absOf c t l p) (c .ended) now (opened f (absOf c t l p) body now) r e) (refused-handles c t l p r)
+      same-handles c t l p (λ x. refuse x r) (λ x. timed x now (live x (foundRules f x body now))) (refused c r) t l p
+      (λ v. gate-shut (absOf c t l p) (c .ended) now (foundRules f (absOf c t l p) body now) r e) (refused-handles c t l p r)
 
   pub open-gate : gateOf (c .ended) now ≡ gate.Open → (d : Done) (t′ l′ p′ : List ℕ) → HandlesFound c t l p f body now d t′ l′ p′ → HandlesDecoded c t l p f body now d t′ l′ p′
   open-gate e d t′ l′ p′ =
-      same-handles c t l p (λ x. opened f x body now) (λ x. timed x now (live x (opened f x body now))) d t′ l′ p′
-      (λ v. gate-open (absOf c t l p) (c .ended) now (opened f (absOf c t l p) body now) e)
+      same-handles c t l p (λ x. foundRules f x body now) (λ x. timed x now (live x (foundRules f x body now))) d t′ l′ p′
+      (λ v. gate-open (absOf c t l p) (c .ended) now (foundRules f (absOf c t l p) body now) e)
 
 -- ---- the call
 
@@ -140,7 +140,7 @@ twelve head e q = go (typeOf (getD head 1 0)) (eqb (getD head 0 0) 0) (rw e at q
     go k false z = let y : _≡_ {A = ℕ} 0 1 = cc in omega arith
 
 -- the rules' order, said of what was found
-ordered : (f : Decoded) (x : Conn) (body : List ℕ) (now : ℕ) → (f ≡ found.Size → ⊥) → onDecoded f x body now ≡ timed x now (live x (opened f x body now))
+ordered : (f : Decoded) (x : Conn) (body : List ℕ) (now : ℕ) → (f ≡ found.Size → ⊥) → onDecoded f x body now ≡ timed x now (live x (foundRules f x body now))
 unfolding onDecoded
 ordered found.Size x body now e = absurd (e refl)
 ordered (found.Version n) x body now e = refl

@@ -111,17 +111,17 @@ HandlesHeader c t l p h body now d t′ l′ p′ = Handles (λ x. onHeader x h 
 -- ---- what twelve bytes were found to be
 
 -- "11, 12, 13, the rules below", once the time is in range and the connection has not ended
-abbrev pub opened : Decoded → Conn → List ℕ → ℕ → Result
-opened found.Size x body now = refuse x reply.Size
-opened (found.Version v) x body now = end x reply.Version
-opened (found.Type n) x body now = end x reply.Type
-opened (found.Header h) x body now = onHeader x h body now
+abbrev pub foundRules : Decoded → Conn → List ℕ → ℕ → Result
+foundRules found.Size x body now = refuse x reply.Size
+foundRules (found.Version v) x body now = end x reply.Version
+foundRules (found.Type n) x body now = end x reply.Type
+foundRules (found.Header h) x body now = onHeader x h body now
 
 abbrev pub HandlesFound : Connection → List ℕ → List ℕ → List ℕ → Decoded → List ℕ → ℕ → Done → List ℕ → List ℕ → List ℕ → Type 0
-HandlesFound c t l p f body now d t′ l′ p′ = Handles (λ x. opened f x body now) c t l p d t′ l′ p′
+HandlesFound c t l p f body now d t′ l′ p′ = Handles (λ x. foundRules f x body now) c t l p d t′ l′ p′
 
 abbrev pub HandlesDecoded : Connection → List ℕ → List ℕ → List ℕ → Decoded → List ℕ → ℕ → Done → List ℕ → List ℕ → List ℕ → Type 0
-HandlesDecoded c t l p f body now d t′ l′ p′ = Handles (λ x. timed x now (live x (opened f x body now))) c t l p d t′ l′ p′
+HandlesDecoded c t l p f body now d t′ l′ p′ = Handles (λ x. timed x now (live x (foundRules f x body now))) c t l p d t′ l′ p′
 
 -- ---- the call
 

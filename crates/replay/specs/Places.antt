@@ -1,7 +1,6 @@
 -- Places in the program's buffers, and what a turn of the program does to them.
 use mathlib.Core.Path.{_≡_}
-use mathlib.Core.Logic.{_⊎_}
-use mathlib.Core.Bool.{false}
+use mathlib.Core.Bool.{true, false}
 use mathlib.Core.List.{List}
 use Prim.Native.Nat.{ℕ, _-_, _≤_}
 use lib.ListN.{length, take}
@@ -10,6 +9,7 @@ use Rattle.trace.specs.Applies.{sized}
 use Rattle.trace.specs.Output.{Finishes, allowance, kept}
 use Rattle.trace.specs.Turns.{Runs}
 use Rattle.trace.specs.declared.Stop.{Stop}
+use Rattle.trace.specs.declared.Stop.the-variants as stop
 use Rattle.trace.specs.declared.Place.{Place}
 use Rattle.trace.specs.declared.Report.{Report}
 use Rattle.replay.specs.declared.State.{State}
@@ -49,17 +49,30 @@ pub record Fed (input : List ℕ) (s s′ : State) (input′ : List ℕ) : Type 
   pub lines : s′ .put ≡ s .put
   pub stays : Stays s s′
 
--- the last line of a run that stopped so stands in the room, unless there was nowhere to write
-abbrev pub Closes : Stop → State → List ℕ → List ℕ → Type 0
-Closes why s room room′ = (room′ ≡ room) ⊎ ((r : Put) × Finishes why (s .have - s .at) (s .applied) (s .connection .growth) room 0 room′ r)
+-- the last line of a run that stopped so, `left` bytes being left, stands at the start of the room
+abbrev pub Closes : Stop → ℕ → ℕ → ℕ → List ℕ → List ℕ → Type 0
+Closes why left applied growth room room′ = (r : Put) × Finishes why left applied growth room 0 room′ r
 
--- A turn is a run over what was read and not yet taken: connection, count, table, links and pool are as it leaves them.
-pub record Played (s : State) (t l p sent bytes input room : List ℕ) (s′ : State) (t′ l′ p′ : List ℕ) : Type 0 where
+-- all is done, with its last line
+abbrev pub Ends : Stop → State → List ℕ → State → List ℕ → Type 0
+Ends why s room s′ room′ = (s′ .done ≡ true) × Closes why (s .have - s .at) (s .applied) (s .connection .growth) room room′
+
+-- What follows a run that stopped so: where it stopped for room, it goes on where it stands; where the input there is was short and has not
+-- ended, more is read; else all is done.
+abbrev pub GoesOn : Stop → State → List ℕ → List ℕ → State → List ℕ → List ℕ → Type 0
+GoesOn stop.Full s input room s′ input′ room′ = (s′ .at ≡ s .at) × (s′ .have ≡ s .have) × (s′ .ended ≡ s .ended) × (input′ ≡ input) × (room′ ≡ room)
+GoesOn stop.Short s input room s′ input′ room′ = (s .ended ≡ false → Fed input s s′ input′) × (s .ended ≡ true → Ends stop.Short s room s′ room′)
+GoesOn stop.Bad s input room s′ input′ room′ = Ends stop.Bad s room s′ room′
+GoesOn stop.Spent s input room s′ input′ room′ = Ends stop.Spent s room s′ room′
+GoesOn stop.Refused s input room s′ input′ room′ = Ends stop.Refused s room s′ room′
+
+-- A turn is a run over what was read and not yet taken, and what follows it: connection, count, table, links and pool are as the run leaves them.
+pub record Played (s : State) (t l p sent bytes input room : List ℕ) (s′ : State) (t′ l′ p′ input′ room′ : List ℕ) : Type 0 where
   pub report : Report
   pub written : List ℕ
   pub runs : Runs (sized (s .connection) (length t) (length l) (length p) (length sent) (length bytes)) (s .connection) t l p (take (s .have) input) room (placeOf s) allowance report t′ l′ p′ written
-  pub connection : s′ .connection ≡ report .connection
-  pub applied : s′ .applied ≡ report .place .applied
+  pub stays : Stays (afterRun s report) s′
+  pub goes : GoesOn (report .stop) (afterRun s report) input written s′ input′ room′
 
 -- bytes read come after those that are there, inside the buffer
 abbrev pub Inside : ℕ → ℕ → Got → Type 0

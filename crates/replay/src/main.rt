@@ -2,10 +2,9 @@
 mod room;
 
 ghost use mathlib.Core.Path.{_≡_};
-ghost use mathlib.Core.Bool.{true};
 ghost use Prim.Native.Nat.{_≤_};
 ghost use lib.ListN.{length, take};
-ghost use Rattle.replay.specs.Places.{placeOf, afterRun, Sound, Stays, Fed, Closes, Played, Inside};
+ghost use Rattle.replay.specs.Places.{placeOf, afterRun, Sound, Stays, Fed, Closes, Ends, GoesOn, Played, Inside};
 use connection::Connection;
 use lines::Put;
 use opening::Created;
@@ -135,14 +134,14 @@ fn feed(state: State, src: &mut [u8]) -> State
 // Writes the lines that there are, and the last line.
 fn finish(state: State, stop: Stop, out: &mut [u8]) -> State
     requires { ⌜ (state .at ≤ state .have) × (state .put ≤ length (now out)) ⌝ }
-    ensures { λ r. ⌜ (r .at ≡ state .at) × (r .have ≡ state .have) × (r .put ≡ 0) × (r .done ≡ true) × Stays state r ⌝ }
-    ensures { λ _. ⌜ Closes stop state (now (out .entry)) (now (out .exit)) ⌝ }
+    ensures { λ r. ⌜ (r .at ≡ state .at) × (r .have ≡ state .have) × (r .put ≡ 0) × Stays state r ⌝ }
+    ensures { λ r. ⌜ Ends stop state (now (out .entry)) r (now (out .exit)) ⌝ }
 {
     let flushed = flush(state, &out[..]);
     let connection = state.connection;
+    let left = state.have - state.at;
+    let put = trace::finish(out, 0, stop, left, state.applied, connection.growth);
     if !flushed.done {
-        let left = state.have - state.at;
-        let put = trace::finish(out, 0, stop, left, state.applied, connection.growth);
         write_put(&out[..], put);
     }
     State {
@@ -161,6 +160,7 @@ fn go_on(state: State, stop: Stop, src: &mut [u8], out: &mut [u8]) -> State
     requires { ⌜ Sound (length (now src)) (length (now out)) state ⌝ }
     ensures { λ r. ⌜ Sound (length (now (src .entry))) (length (now (out .entry))) r ⌝ }
     ensures { λ r. ⌜ Stays state r ⌝ }
+    ensures { λ r. ⌜ GoesOn stop state (now (src .entry)) (now (out .entry)) r (now (src .exit)) (now (out .exit)) ⌝ }
 {
     match stop {
         Stop::Full => flush(state, &out[..]),
@@ -217,7 +217,7 @@ fn turn(
 ) -> State
     requires { ⌜ Sound (length (now src)) (length (now out)) state ⌝ }
     ensures { λ r. ⌜ Sound (length (now (src .entry))) (length (now (out .entry))) r ⌝ }
-    ensures { λ r. ⌜ Played state (now (table .entry)) (now (links .entry)) (now (pool .entry)) (now (sent .entry)) (now (bytes .entry)) (now (src .entry)) (now (out .entry)) r (now (table .exit)) (now (links .exit)) (now (pool .exit)) ⌝ }
+    ensures { λ r. ⌜ Played state (now (table .entry)) (now (links .entry)) (now (pool .entry)) (now (sent .entry)) (now (bytes .entry)) (now (src .entry)) (now (out .entry)) r (now (table .exit)) (now (links .exit)) (now (pool .exit)) (now (src .exit)) (now (out .exit)) ⌝ }
 {
     let connection = state.connection;
     let have = state.have;
@@ -264,7 +264,9 @@ fn play(
 }
 
 // Writes the one line of a trace without an event.
-fn only_line(stop: Stop, out: &mut [u8]) {
+fn only_line(stop: Stop, out: &mut [u8])
+    ensures { λ _. ⌜ Closes stop 0 0 0 (now (out .entry)) (now (out .exit)) ⌝ }
+{
     let put = trace::finish(out, 0, stop, 0, 0, 0);
     write_put(&out[..], put);
 }

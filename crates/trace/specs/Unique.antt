@@ -1,6 +1,6 @@
 -- Two answers of one run, and what is the same of them. 01: "Reply, frame, bytes read, wakes, table and pool follow from the input".
--- The exceptions are docs/DECISIONS.md's 28: which blocks a queue has, where in its first block it starts after several calls, and what is
--- lent to work with.
+-- The exceptions are docs/DECISIONS.md's 28: which blocks a queue has, where in its first block it starts after several calls and so how many
+-- blocks are free, and what is lent to work with.
 use mathlib.Core.Path.{_≡_}
 use mathlib.Core.Bool.{Bool, true, false}
 use mathlib.Core.List.{List}

@@ -20,7 +20,8 @@ pub struct Sizes {
     pub pool: usize,
 }
 
-// Settings that a trace may have, what they ask for and the place after them; or why no event is reached.
+// Settings that a trace may have, what they ask for and the place after them; or why no event is reached. An input that ends at
+// Short is unreadable.
 pub enum Begun {
     Fine(Settings, Sizes, usize),
     Stop(Stop),

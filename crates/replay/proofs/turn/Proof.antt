@@ -1,9 +1,8 @@
 -- `replay::turn` meets its contract: a run, which stops inside its input and its room, and what follows it. Assumes nothing.
-use mathlib.Core.Path.{sym, ap, _∙_}
+use mathlib.Core.Path.{sym, _∙_}
 use borrow.Author.Needs.{needs}
 use native.Mathlib.Omega.{arith}
 use lib.Seq.{length-take-le}
-use Rattle.replay.specs.declared.State.{State}
 use Rattle.replay.proofs.turn.Statement.{statement}
 use Rattle.replay.proofs.turn.Tie as tie
 
@@ -63,8 +62,8 @@ returns c =
         report = k .result;
         written = _;
         runs = rw (c .before .before .before .before .before .before .before .before .before .before .before .before .before .before .before .before .before .before .before .before .before .before .before .before .before .before .before .before .place-of .ensures) at (k .ensures .0);
-        connection = g .1 .0 ∙ ap (λ (x : State). x .connection) a;
-        applied = g .1 .1 ∙ ap (λ (x : State). x .applied) a;
+        stays = rw a at (g .1 .0);
+        goes = rw a at (g .1 .1);
       },
     )
 

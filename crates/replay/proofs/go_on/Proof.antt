@@ -1,0 +1,139 @@
+-- `replay::go_on` meets its contract: each reason to stop has what follows it. Assumes nothing.
+use mathlib.Core.Path.{_≡_, refl, sym, _∙_}
+use Prim.Native.Nat.{ℕ, _≤_}
+use lib.ListN.{length}
+use borrow.Author.Needs.{needs}
+use native.Mathlib.Omega.{arith}
+use Rattle.memory.proofs.Laws.{never}
+use Rattle.replay.specs.Places.{Sound}
+use Rattle.replay.specs.declared.State.{State}
+use Rattle.replay.proofs.go_on.Statement.{statement}
+use Rattle.replay.proofs.go_on.Tie as tie
+
+-- the places stay, and the room is empty
+inside : (input room : ℕ) (s s′ : State) → Sound input room s → s′ .at ≡ s .at → s′ .have ≡ s .have → s′ .put ≡ 0 → Sound input room s′
+inside input room s s′ p a h e = (omega (arith, p .0, a, h), omega (arith, p .1, h), omega (arith, e))
+
+enum-told : tie.Need-enum-told
+enum-told c = search needs
+
+flush-requires : tie.Need-flush-requires
+flush-requires c κs = search needs
+
+enum-told-2 : tie.Need-enum-told-2
+enum-told-2 c = search needs
+
+finish-requires : tie.Need-finish-requires
+finish-requires c κs = search needs
+
+same-length : tie.Need-same-length
+same-length c = search needs
+
+returns : tie.Need-returns
+returns c =
+    let a = c .before .before .before .before .before .before .before .before .before .args in
+    let p = c .before .before .before .before .before .before .before .before .before .pre in
+    let f = c .before .before .finish in
+    let e = rw (c .before .before .before .before .before .enum-told2 .given .1) at (f .ensures .1) in
+    (inside (length (a .src .now)) (length (a .out .now)) (a .state) (f .result) p (f .ensures .0 .0) (f .ensures .0 .1) (f .ensures .0 .2), (f .ensures .0 .3, rw (c .before .before .before .before .before .enum-told2 .given .1) (λ x. never (sym (c .before .before .before .before .if1 .taken) ∙ x), λ x. e)))
+
+feed-requires : tie.Need-feed-requires
+feed-requires c κs = search needs
+
+enum-told-3 : tie.Need-enum-told-3
+enum-told-3 c = search needs
+
+finish-requires-2 : tie.Need-finish-requires-2
+finish-requires-2 c κs = search needs
+
+enum-told-4 : tie.Need-enum-told-4
+enum-told-4 c = search needs
+
+finish-requires-3 : tie.Need-finish-requires-3
+finish-requires-3 c κs = search needs
+
+enum-told-5 : tie.Need-enum-told-5
+enum-told-5 c = search needs
+
+finish-requires-4 : tie.Need-finish-requires-4
+finish-requires-4 c κs = search needs
+
+same-length-2 : tie.Need-same-length-2
+same-length-2 c = search needs
+
+returns-2 : tie.Need-returns-2
+returns-2 c =
+    let a = c .before .before .before .before .before .before .args in
+    let p = c .before .before .before .before .before .before .pre in
+    let k = c .flush in
+    (inside (length (a .src .now)) (length (a .out .now)) (a .state) (k .result) p (k .ensures .0) (k .ensures .1) (k .ensures .2), (k .ensures .4, rw (c .before .before .enum-told .given .1) (k .ensures .0, k .ensures .1, k .ensures .3, refl, refl)))
+
+same-length-3 : tie.Need-same-length-3
+same-length-3 c = search needs
+
+returns-3 : tie.Need-returns-3
+returns-3 c =
+    let p = c .before .before .before .before .before .before .before .before .before .pre in
+    let k = c .before .before .feed .ensures in
+    ((omega (arith, k .start), k .inside, omega (arith, k .lines, p .2)), (k .stays, rw (c .before .before .before .before .before .enum-told2 .given .1) (λ x. k, λ x. never (sym x ∙ c .before .before .before .before .if1 .left))))
+
+same-length-4 : tie.Need-same-length-4
+same-length-4 c = search needs
+
+returns-4 : tie.Need-returns-4
+returns-4 c =
+    let a = c .before .before .before .before .before .before .before .before .args in
+    let p = c .before .before .before .before .before .before .before .before .pre in
+    let f = c .before .before .finish2 in
+    let e = rw (c .before .before .before .before .enum-told3 .given .1) at (f .ensures .1) in
+    (inside (length (a .src .now)) (length (a .out .now)) (a .state) (f .result) p (f .ensures .0 .0) (f .ensures .0 .1) (f .ensures .0 .2), (f .ensures .0 .3, rw (c .before .before .before .before .enum-told3 .given .1) e))
+
+same-length-5 : tie.Need-same-length-5
+same-length-5 c = search needs
+
+returns-5 : tie.Need-returns-5
+returns-5 c =
+    let a = c .before .before .before .before .before .before .before .before .args in
+    let p = c .before .before .before .before .before .before .before .before .pre in
+    let f = c .before .before .finish3 in
+    let e = rw (c .before .before .before .before .enum-told4 .given .1) at (f .ensures .1) in
+    (inside (length (a .src .now)) (length (a .out .now)) (a .state) (f .result) p (f .ensures .0 .0) (f .ensures .0 .1) (f .ensures .0 .2), (f .ensures .0 .3, rw (c .before .before .before .before .enum-told4 .given .1) e))
+
+same-length-6 : tie.Need-same-length-6
+same-length-6 c = search needs
+
+returns-6 : tie.Need-returns-6
+returns-6 c =
+    let a = c .before .before .before .before .before .before .before .before .args in
+    let p = c .before .before .before .before .before .before .before .before .pre in
+    let f = c .before .before .finish4 in
+    let e = rw (c .before .before .before .before .enum-told5 .given .1) at (f .ensures .1) in
+    (inside (length (a .src .now)) (length (a .out .now)) (a .state) (f .result) p (f .ensures .0 .0) (f .ensures .0 .1) (f .ensures .0 .2), (f .ensures .0 .3, rw (c .before .before .before .before .enum-told5 .given .1) e))
+
+pub go-on-spec : {M : Type 1} → statement M
+go-on-spec =
+    tie.close
+    (tie.spec
+    enum-told
+    flush-requires
+    enum-told-2
+    finish-requires
+    same-length
+    returns
+    feed-requires
+    enum-told-3
+    finish-requires-2
+    enum-told-4
+    finish-requires-3
+    enum-told-5
+    finish-requires-4
+    same-length-2
+    returns-2
+    same-length-3
+    returns-3
+    same-length-4
+    returns-4
+    same-length-5
+    returns-5
+    same-length-6
+    returns-6)
