@@ -162,6 +162,7 @@ sends c i given n h l =
       rw k,
       ap (λ (y : Entry). y .stream .flow .«send_window» + n) x ∙ omega (arith, l),
       ap (λ (y : Entry). y .stream .flag) x,
+      ap (λ (y : Entry). y .stream .state) x,
     )
 
 pub write-is-sent : WriteIsSent

@@ -17,7 +17,7 @@ use Rattle.rtt.specs.Pings.{elapsed, idAfter}
 use Rattle.rtt.specs.declared.RttState.the-variants.{Waiting, AwaitingPong}
 use Rattle.rtt.specs.declared.RoundTrip.the-variants.{Known}
 use Rattle.flow_control.specs.Windows.{top}
-use Rattle.stream.specs.States.{canWrite}
+use Rattle.stream.specs.States.{canWrite, acknowledge}
 use Rattle.stream.specs.Streams.{newInbound, newOutbound, dataTaken, addFlag, owesAck, writeCount}
 use Rattle.stream.specs.declared.State.{State}
 use Rattle.stream.specs.declared.State.the-variants.{Open, SendClosed, RecvClosed, Closed}
@@ -48,6 +48,10 @@ pub record FrameFor (t : Tag) (c : Conn) (i : ℕ) (head body : List ℕ) : Type
   pub noRst : contains (header .flags) rst ≡ false
   pub names : header .«stream_id» ≡ entry (c .slots) i .stream .id
   pub long : length body ≡ bodyLength t (header .length .0)
+
+-- "with ACK, .. goes to Open acknowledged if it is Open": the state of a stream after a frame, received or sent, with ACK or without
+abbrev pub ackTaken : Bool → State → State
+ackTaken acks q = cond acks (acknowledge q) q
 
 -- done, the body behind the unread bytes, the receive window less the body
 abbrev pub Takes : List ℕ → Entry → Outcome → Entry → Type 0
@@ -118,7 +122,7 @@ OpenIsGiven =
     Gave r (c .nextId) × InLowest c r (newEntry (newOutbound (record { 0 = c .nextId }) now) [])
 
 -- "the window falls by n, and a Data frame carries the first n bytes": n bytes of those given are sent for slot i, under a Data header
--- of the stream, of length n and with the flag that is owed, and then owed no more.
+-- of the stream, of length n and with the flag that is owed, and then owed no more; "a write with ACK acknowledges".
 abbrev pub Sends : Conn → ℕ → List ℕ → ℕ → Result → Type 0
 Sends c i given n r =
     let s = entry (c .slots) i .stream in
@@ -133,6 +137,7 @@ Sends c i given n r =
     })
     × (entry (r .after .slots) i .stream .flow .«send_window» + n ≡ s .flow .«send_window»)
     × (entry (r .after .slots) i .stream .flag ≡ owed.None)
+    × (entry (r .after .slots) i .stream .state ≡ ackTaken (owesAck (s .flag)) (s .state))
 
 -- A write on a held handle that may write, with its send window open, sends min(window, given, split) bytes.
 abbrev pub WriteIsSent : Type 0
