@@ -1,6 +1,6 @@
 -- What the rules allow is done. Assumes nothing.
 use mathlib.Core.Path.{_≡_, refl, sym, ap, _∙_, subst}
-use mathlib.Core.Logic.{_≢_}
+use mathlib.Core.Logic.{_≢_, _⊎_, inl, inr}
 use mathlib.Core.Bool.{Bool, true, false, cond}
 use mathlib.Core.List.{List, [], _++_, append-nil}
 use Prim.Native.Nat.{ℕ, _+_, _≤_, _<_}
@@ -12,6 +12,7 @@ use borrow.Author.Tests.{leb-true, le-leb, lt-leb, le-ltb, ne-eqb}
 use Rattle.frame.specs.Header.{initialWindow, dataHeader, contains, syn, rst, fin, protocolError, internalError}
 use Rattle.frame.specs.declared.header.Header.{Header}
 use Rattle.frame.specs.declared.header.StreamId.{StreamId}
+use Rattle.frame.specs.declared.header.Tag.{Tag}
 use Rattle.frame.specs.declared.header.Tag.the-variants as tag
 use Rattle.flow_control.specs.Windows.{top}
 use Rattle.flow_control.specs.declared.FlowController.{FlowController}
@@ -27,15 +28,15 @@ use Rattle.rules.specs.Replies.{Outcome}
 use Rattle.rules.specs.Lists.{Place, at, nowhere}
 use Rattle.rules.specs.State.{Entry, Conn, vacant, entry, isFree, lowestFree, room}
 use Rattle.rules.specs.Ending.{Result}
-use Rattle.rules.specs.Frames.{Acked, whose, openedBy, synData, synUpdate, knownData, knownUpdate, dataRules, updateRules, frameRules}
+use Rattle.rules.specs.Frames.{Acked, ackStep, whose, resetEntry, onReset, openedBy, synData, synUpdate, knownData, knownUpdate, dataRules, updateRules, frameRules}
 use Rattle.rules.specs.Calls.{openAt, open-rules, writeWith, writeRules, closeRules}
 use Rattle.rules.specs.Step.{step}
 use Rattle.rules.proofs.Lists.{Says, first-says}
 use Rattle.demands.specs.Demands.{heldCount}
-use Rattle.demands.specs.Progress.{Takes, Credits, Sends, finSent, DataIsTaken, CreditIsAdded, SynIsOpened, UpdateIsOpened, OpenIsGiven, WriteIsSent, CloseIsSent, DropIsSent}
+use Rattle.demands.specs.Progress.{Takes, Credits, Resets, Sends, finSent, DataIsTaken, CreditIsAdded, ResetIsTaken, SynIsOpened, UpdateIsOpened, OpenIsGiven, WriteIsSent, CloseIsSent, DropIsSent}
 use Rattle.demands.proofs.Lists.{split, true-not-false}
 use Rattle.demands.proofs.Invariant.{in-range}
-use Rattle.demands.proofs.Acks.{Acks}
+use Rattle.demands.proofs.Acks.{Acks, is-listed}
 use Rattle.demands.proofs.Steps.{reached}
 use Rattle.demands.proofs.Answers.{timely, holds, alive}
 use Rattle.demands.proofs.Stale.{drops-own}
@@ -79,21 +80,50 @@ module _ (h : Header) (i : ℕ) (a : Acked) (k : Acks a (h .«stream_id») (at i
 
 pub data-is-taken : DataIsTaken
 unfolding frameRules
-data-is-taken c m now i head body f t l w p =
+data-is-taken c m now i head body f q t l w p =
     known c m now i head body tag.Data f t l (Takes body)
     (λ d. (length body ≤ entry (d .slots) i .stream .flow .«receive_window») × (length body ≤ room d))
     (λ a. dataRules a (f .header) body (at i) now) refl
-    (λ a k n. takes-data (f .header) i a k (f .noSyn) (f .noRst) now body (n .0) (n .1))
+    (λ a k n. takes-data (f .header) i a k (q .0) (q .1) now body (n .0) (n .1))
     (w, p)
 
 pub credit-is-added : CreditIsAdded
 unfolding frameRules
-credit-is-added c m now i head f t l w =
+credit-is-added c m now i head f q t l w =
     known c m now i head [] tag.WindowUpdate f t l (Credits i (f .header .length .0))
     (λ d. entry (d .slots) i .stream .flow .«send_window» + f .header .length .0 ≤ top)
     (λ a. updateRules a (f .header) (at i) now) refl
-    (λ a k n. takes-update (f .header) i a k (f .noSyn) (f .noRst) now n)
+    (λ a k n. takes-update (f .header) i a k (q .0) (q .1) now n)
     w
+
+resets : (id : StreamId) (i : ℕ) (a : Acked) → Acks a id (at i) → entry (a .before .slots) i .listed ≡ true → Does Resets (a .before) i (onReset a (at i))
+unfolding onReset
+resets id i a k l =
+    let e = entry (a .conn .slots) i in
+    let held = k .inv .good i .holds (is-listed id e (k .located .1)) in
+    let x = getD-set-same (a .conn .slots) i (resetEntry e) vacant (k .located .0) in (
+      refl,
+      ap (λ (y : Entry). y .stream .state) x,
+      ap (λ (y : Entry). y .listed) x,
+      ap (λ (y : Entry). y .bytes) x ∙ k .bytes i,
+      ap (λ (y : Entry). y .held) x ∙ held ∙ sym (k .before .good i .holds l),
+    )
+
+-- both types come to the same rule
+to-reset :
+    (c : Conn) (h : Header) (body : List ℕ) (place : Place) (now : ℕ) (t : Tag) → (t ≡ tag.Data) ⊎ (t ≡ tag.WindowUpdate) → contains (h .flags) rst ≡ true →
+    frameRules t c h body place now ≡ onReset (ackStep c h place) place
+unfolding frameRules dataRules updateRules
+to-reset c h body place now t (inl e) r = rw (e, r)
+to-reset c h body place now t (inr e) r = rw (e, r)
+
+pub reset-is-taken : ResetIsTaken
+reset-is-taken c m now i head body t e f r time l =
+    known c m now i head body t f time l Resets
+    (λ d. entry (d .slots) i .listed ≡ true)
+    (λ a. onReset a (at i)) (to-reset c (f .header) body (at i) now t e r)
+    (λ a k n. resets (f .header .«stream_id») i a k n)
+    l
 
 -- ---- a frame that makes a stream
 

@@ -39,15 +39,17 @@ use Rattle.demands.specs.Demands.{Reach, heldCount, opens, opensByCredit
 use Rattle.demands.specs.Theorems.{Gave}
 use Rattle.demands.specs.Handles.{Drops}
 
--- a frame of type t without SYN and RST for the stream in slot i, its body as long as the type and the header say
+-- a frame of type t for the stream in slot i, its body as long as the type and the header say
 pub record FrameFor (t : Tag) (c : Conn) (i : ℕ) (head body : List ℕ) : Type 0 where
   pub header : Header
   pub decodes : decoded head ≡ found.Header header
   pub isOf : header .tag ≡ t
-  pub noSyn : contains (header .flags) syn ≡ false
-  pub noRst : contains (header .flags) rst ≡ false
   pub names : header .«stream_id» ≡ entry (c .slots) i .stream .id
   pub long : length body ≡ bodyLength t (header .length .0)
+
+-- neither SYN nor RST
+abbrev pub Plain : Header → Type 0
+Plain h = (contains (h .flags) syn ≡ false) × (contains (h .flags) rst ≡ false)
 
 -- "with ACK, .. goes to Open acknowledged if it is Open": the state of a stream after a frame, received or sent, with ACK or without
 abbrev pub ackTaken : Bool → State → State
@@ -64,7 +66,7 @@ Takes body old o new =
 -- the window falls by it. This holds in every reached state, so after any frames, not only after the first.
 abbrev pub DataIsTaken : Type 0
 DataIsTaken =
-    (c : Conn) → Reach c → (now i : ℕ) (head body : List ℕ) → FrameFor tag.Data c i head body → now ≤ lastTime → entry (c .slots) i .listed ≡ true →
+    (c : Conn) → Reach c → (now i : ℕ) (head body : List ℕ) (f : FrameFor tag.Data c i head body) → Plain (f .header) → now ≤ lastTime → entry (c .slots) i .listed ≡ true →
     length body ≤ entry (c .slots) i .stream .flow .«receive_window» → length body ≤ room c →
     let r = step c (rules.frame now head body) in
     Takes body (entry (c .slots) i) (r .outcome) (entry (r .after .slots) i)
@@ -83,10 +85,27 @@ Credits i credit old o new =
 -- A WindowUpdate for a stream in the table, whose credit takes its send window to at most 2^32-1, is done and adds it.
 abbrev pub CreditIsAdded : Type 0
 CreditIsAdded =
-    (c : Conn) → Reach c → (now i : ℕ) (head : List ℕ) (f : FrameFor tag.WindowUpdate c i head []) → now ≤ lastTime → entry (c .slots) i .listed ≡ true →
+    (c : Conn) → Reach c → (now i : ℕ) (head : List ℕ) (f : FrameFor tag.WindowUpdate c i head []) → Plain (f .header) → now ≤ lastTime → entry (c .slots) i .listed ≡ true →
     entry (c .slots) i .stream .flow .«send_window» + f .header .length .0 ≤ top →
     let r = step c (rules.frame now head []) in
     Credits i (f .header .length .0) (entry (c .slots) i) (r .outcome) (entry (r .after .slots) i)
+
+-- "a known stream becomes Closed, leaves the table": done, the unread bytes and the handle as they were
+abbrev pub Resets : Entry → Outcome → Entry → Type 0
+Resets old o new =
+    (o .reply ≡ reply.Done)
+    × (new .stream .state ≡ Closed)
+    × (new .listed ≡ false)
+    × (new .bytes ≡ old .bytes)
+    × (new .held ≡ old .held)
+
+-- Data or a WindowUpdate with RST for a stream in the table, whatever its other flags and its body, is done and resets it.
+abbrev pub ResetIsTaken : Type 0
+ResetIsTaken =
+    (c : Conn) → Reach c → (now i : ℕ) (head body : List ℕ) (t : Tag) → (t ≡ tag.Data) ⊎ (t ≡ tag.WindowUpdate) → (f : FrameFor t c i head body) →
+    contains (f .header .flags) rst ≡ true → now ≤ lastTime → entry (c .slots) i .listed ≡ true →
+    let r = step c (rules.frame now head body) in
+    Resets (entry (c .slots) i) (r .outcome) (entry (r .after .slots) i)
 
 -- "the lowest free one is taken": the lowest slot that was free before the call is the one told, and holds the entry after it.
 abbrev pub InLowest : Conn → Result → Entry → Type 0
