@@ -2,7 +2,7 @@
 -- first frame and then feigns the rest": in every reached state that goes on, what the rules allow is done, and is seen afterwards.
 use mathlib.Core.Path.{_≡_}
 use mathlib.Core.Logic.{_≢_, _⊎_}
-use mathlib.Core.Bool.{Bool, true, false, cond}
+use mathlib.Core.Bool.{Bool, true, false, cond, not}
 use mathlib.Core.List.{List, [], _++_}
 use Prim.Native.Nat.{ℕ, _+_, _≤_, _<_}
 use lib.ListN.{length, take}
@@ -17,7 +17,7 @@ use Rattle.rtt.specs.Pings.{elapsed, idAfter}
 use Rattle.rtt.specs.declared.RttState.the-variants.{Waiting, AwaitingPong}
 use Rattle.rtt.specs.declared.RoundTrip.the-variants.{Known}
 use Rattle.flow_control.specs.Windows.{top}
-use Rattle.stream.specs.States.{canWrite, acknowledge}
+use Rattle.stream.specs.States.{canWrite, isClosed, acknowledge, finish}
 use Rattle.stream.specs.Streams.{newInbound, newOutbound, dataTaken, addFlag, owesAck, writeCount}
 use Rattle.stream.specs.declared.State.{State}
 use Rattle.stream.specs.declared.State.the-variants.{Open, SendClosed, RecvClosed, Closed}
@@ -55,40 +55,49 @@ Plain h = (contains (h .flags) syn ≡ false) × (contains (h .flags) rst ≡ fa
 abbrev pub ackTaken : Bool → State → State
 ackTaken acks q = cond acks (acknowledge q) q
 
--- done, the body behind the unread bytes, the receive window less the body
-abbrev pub Takes : List ℕ → Entry → Outcome → Entry → Type 0
-Takes body old o new =
+-- "FIN (next state RecvClosed)", after the ACK step; "A stream Closed after a FIN leaves the table", and any other stays in it.
+abbrev pub Goes : Header → Entry → Entry → Type 0
+Goes h old new =
+    (new .stream .state ≡ finish (contains (h .flags) fin) (ackTaken (contains (h .flags) ack) (old .stream .state)))
+    × (new .listed ≡ cond (contains (h .flags) fin) (not (isClosed (new .stream .state))) true)
+
+-- done, the body behind the unread bytes, the receive window less the body, and the state as ACK and FIN make it
+abbrev pub Takes : Header → List ℕ → Entry → Outcome → Entry → Type 0
+Takes h body old o new =
     (o .reply ≡ reply.Done)
     × (new .bytes ≡ old .bytes ++ body)
     × (new .stream .flow .«receive_window» + length body ≡ old .stream .flow .«receive_window»)
+    × Goes h old new
 
--- Data for a stream in the table, within its receive window and the room, is done: the body stands behind the unread bytes, and
--- the window falls by it. This holds in every reached state, so after any frames, not only after the first.
+-- Data without SYN and RST for a stream in the table, within its receive window and the room, is done: the body stands behind the
+-- unread bytes, and the window falls by it. This holds in every reached state, so after any frames, not only after the first.
 abbrev pub DataIsTaken : Type 0
 DataIsTaken =
     (c : Conn) → Reach c → (now i : ℕ) (head body : List ℕ) (f : FrameFor tag.Data c i head body) → Plain (f .header) → now ≤ lastTime → entry (c .slots) i .listed ≡ true →
     length body ≤ entry (c .slots) i .stream .flow .«receive_window» → length body ≤ room c →
     let r = step c (rules.frame now head body) in
-    Takes body (entry (c .slots) i) (r .outcome) (entry (r .after .slots) i)
+    Takes (f .header) body (entry (c .slots) i) (r .outcome) (entry (r .after .slots) i)
 
 -- "credit added, .. writer woken": done, the send window of slot i more by the credit, the unread bytes as they were; a writer that
--- waited is told, with the slot, and waits no more.
-abbrev pub Credits : ℕ → ℕ → Entry → Outcome → Entry → Type 0
-Credits i credit old o new =
+-- waited is told, with the slot, and waits no more. The state is as ACK and FIN make it.
+abbrev pub Credits : ℕ → Header → Entry → Outcome → Entry → Type 0
+Credits i h old o new =
     (o .reply ≡ reply.Done)
-    × (new .stream .flow .«send_window» ≡ old .stream .flow .«send_window» + credit)
+    × (new .stream .flow .«send_window» ≡ old .stream .flow .«send_window» + h .length .0)
     × (new .bytes ≡ old .bytes)
     × (o .wakes .writer ≡ old .stream .writer)
     × (old .stream .writer ≡ true → o .slot ≡ which.At (record { 0 = i }))
     × (new .stream .writer ≡ false)
+    × Goes h old new
 
--- A WindowUpdate for a stream in the table, whose credit takes its send window to at most 2^32-1, is done and adds it.
+-- A WindowUpdate without SYN and RST for a stream in the table, whose credit takes its send window to at most 2^32-1, is done and
+-- adds it.
 abbrev pub CreditIsAdded : Type 0
 CreditIsAdded =
     (c : Conn) → Reach c → (now i : ℕ) (head : List ℕ) (f : FrameFor tag.WindowUpdate c i head []) → Plain (f .header) → now ≤ lastTime → entry (c .slots) i .listed ≡ true →
     entry (c .slots) i .stream .flow .«send_window» + f .header .length .0 ≤ top →
     let r = step c (rules.frame now head []) in
-    Credits i (f .header .length .0) (entry (c .slots) i) (r .outcome) (entry (r .after .slots) i)
+    Credits i (f .header) (entry (c .slots) i) (r .outcome) (entry (r .after .slots) i)
 
 -- "a known stream becomes Closed, leaves the table": done, the unread bytes and the handle as they were
 abbrev pub Resets : Entry → Outcome → Entry → Type 0
