@@ -8,7 +8,7 @@ use lib.ListN.{length}
 use lib.Seq.{getD-set-same}
 use lib.Dec.{ltb, leb}
 use borrow.Author.Tests.{ltb-true, not-true, lt-leb, le-ltb, eq-eqb}
-use Rattle.frame.specs.Header.{contains, syn, rst, fin}
+use Rattle.frame.specs.Header.{contains, syn, ack, rst, fin}
 use Rattle.frame.specs.Wire.{decoded}
 use Rattle.frame.specs.declared.header.Header.{Header}
 use Rattle.frame.specs.declared.header.StreamId.{StreamId}
@@ -30,8 +30,8 @@ use Rattle.rules.specs.Step as rules
 use Rattle.rules.proofs.Lists.{Says, first-says, both}
 use Rattle.demands.specs.Demands.{Reach, heldCount, admits}
 use Rattle.demands.specs.Theorems.{Gave}
-use Rattle.demands.specs.Progress.{FrameFor, InLowest}
-use Rattle.demands.proofs.Lists.{true-not-false, sum-full}
+use Rattle.demands.specs.Progress.{FrameFor, ackTaken, InLowest}
+use Rattle.demands.proofs.Lists.{split, true-not-false, sum-full}
 use Rattle.demands.proofs.Invariant.{Inv}
 use Rattle.demands.proofs.Acks.{Acks, Located, after-ack, unmoved, acknowledges}
 use Rattle.demands.proofs.Steps.{reached}
@@ -68,12 +68,23 @@ enough id place a body k p = le-ltb (room (a .conn)) (length body) (rw (k .confi
 abbrev pub Does : (Entry → Outcome → Entry → Type 0) → Conn → ℕ → Result → Type 0
 Does P c i r = P (entry (c .slots) i) (r .outcome) (entry (r .after .slots) i)
 
+-- the state of the stream in slot i after the ACK step
+abbrev pub AckTaken : Header → ℕ → Conn → Acked → Type 0
+AckTaken h i d a = entry (a .conn .slots) i .stream .state ≡ ackTaken (contains (h .flags) ack) (entry (d .slots) i .stream .state)
+
+ack-taken : (c : Conn) (h : Header) (i : ℕ) → i < length (c .slots) → AckTaken h i c (ackStep c h (at i))
+unfolding ackStep
+ack-taken c h i l =
+    split (AckTaken h i c) (contains (h .flags) ack)
+    (λ e. rw e (ap (λ (y : Entry). y .stream .state) (getD-set-same (c .slots) i _ vacant l)))
+    (λ e. rw e)
+
 -- a frame for it does what its rules R do after any ACK step; N is what they need of the state before
 pub known :
     (c : Conn) → Reach c → (now i : ℕ) (head body : List ℕ) (t : Tag) (f : FrameFor t c i head body) → now ≤ lastTime → entry (c .slots) i .listed ≡ true →
     (P : Entry → Outcome → Entry → Type 0) (N : Conn → Type 0) (R : Acked → Result) →
     frameRules t c (f .header) body (at i) now ≡ R (ackStep c (f .header) (at i)) →
-    ((a : Acked) → Acks a (f .header .«stream_id») (at i) → N (a .before) → Does P (a .before) i (R a)) →
+    ((a : Acked) → Acks a (f .header .«stream_id») (at i) → AckTaken (f .header) i (a .before) a → N (a .before) → Does P (a .before) i (R a)) →
     N c → Does P c i (step c (rules.frame now head body))
 known c m now i head body t f time l P N R e does n =
     let v = reached m in
@@ -83,7 +94,7 @@ known c m now i head body t f time l P N R e does n =
     let located : Located (c .slots) (h .«stream_id») (at i) = subst (Located (c .slots) (h .«stream_id»)) here (first-says _ (c .slots) vacant) in
     let done = framed c now head body h t (f .decodes) (f .isOf) (f .long) time live in
     subst (Does P c i) (sym (done ∙ ap (λ (q : Place). frameRules t c h body q now) here ∙ e))
-    (acked-as c v live h (at i) located (λ d a. N d → Does P d i (R a)) does n)
+    (acked-as c v live h (at i) located (λ d a. AckTaken h i d a → N d → Does P d i (R a)) does (ack-taken c h i (located .0)) n)
 
 -- what is taken stands in the slot, where there is room for the body
 pub stores :

@@ -1,7 +1,7 @@
 -- What the rules allow is done. Assumes nothing.
 use mathlib.Core.Path.{_≡_, refl, sym, ap, _∙_, subst}
-use mathlib.Core.Logic.{_≢_}
-use mathlib.Core.Bool.{Bool, true, false, cond}
+use mathlib.Core.Logic.{_≢_, _⊎_, inl, inr}
+use mathlib.Core.Bool.{Bool, true, false, cond, not}
 use mathlib.Core.List.{List, [], _++_, append-nil}
 use Prim.Native.Nat.{ℕ, _+_, _≤_, _<_}
 use native.Mathlib.Omega.{arith}
@@ -12,10 +12,11 @@ use borrow.Author.Tests.{leb-true, le-leb, lt-leb, le-ltb, ne-eqb}
 use Rattle.frame.specs.Header.{initialWindow, dataHeader, contains, syn, rst, fin, protocolError, internalError}
 use Rattle.frame.specs.declared.header.Header.{Header}
 use Rattle.frame.specs.declared.header.StreamId.{StreamId}
+use Rattle.frame.specs.declared.header.Tag.{Tag}
 use Rattle.frame.specs.declared.header.Tag.the-variants as tag
 use Rattle.flow_control.specs.Windows.{top}
 use Rattle.flow_control.specs.declared.FlowController.{FlowController}
-use Rattle.stream.specs.States.{change}
+use Rattle.stream.specs.States.{change, isClosed, finish}
 use Rattle.stream.specs.Streams as stream
 use Rattle.stream.specs.declared.Stream.{Stream}
 use Rattle.stream.specs.declared.State.{State}
@@ -27,35 +28,44 @@ use Rattle.rules.specs.Replies.{Outcome}
 use Rattle.rules.specs.Lists.{Place, at, nowhere}
 use Rattle.rules.specs.State.{Entry, Conn, vacant, entry, isFree, lowestFree, room}
 use Rattle.rules.specs.Ending.{Result}
-use Rattle.rules.specs.Frames.{Acked, whose, openedBy, synData, synUpdate, knownData, knownUpdate, dataRules, updateRules, frameRules}
+use Rattle.rules.specs.Frames.{Acked, ackStep, whose, resetEntry, onReset, takenEntry, openedBy, synData, synUpdate, knownData, knownUpdate, dataRules, updateRules, frameRules}
 use Rattle.rules.specs.Calls.{openAt, open-rules, writeWith, writeRules, closeRules}
 use Rattle.rules.specs.Step.{step}
 use Rattle.rules.proofs.Lists.{Says, first-says}
 use Rattle.demands.specs.Demands.{heldCount}
-use Rattle.demands.specs.Progress.{Takes, Credits, Sends, finSent, DataIsTaken, CreditIsAdded, SynIsOpened, UpdateIsOpened, OpenIsGiven, WriteIsSent, CloseIsSent, DropIsSent}
+use Rattle.demands.specs.Progress.{Goes, Takes, Credits, Resets, Sends, finSent, DataIsTaken, CreditIsAdded, ResetIsTaken, SynIsOpened, UpdateIsOpened, OpenIsGiven, WriteIsSent, CloseIsSent, DropIsSent}
 use Rattle.demands.proofs.Lists.{split, true-not-false}
 use Rattle.demands.proofs.Invariant.{in-range}
-use Rattle.demands.proofs.Acks.{Acks}
+use Rattle.demands.proofs.Acks.{Acks, is-listed}
 use Rattle.demands.proofs.Steps.{reached}
 use Rattle.demands.proofs.Answers.{timely, holds, alive}
 use Rattle.demands.proofs.Stale.{drops-own}
-use Rattle.demands.proofs.Framed.{framed, Does, known, stores, Makes, Ready, some-free, makes, admitted, opened}
+use Rattle.demands.proofs.Framed.{framed, Does, AckTaken, known, stores, Makes, Ready, some-free, makes, admitted, opened}
 
 -- ---- a frame for a stream in the table
 
-module _ (h : Header) (i : ℕ) (a : Acked) (k : Acks a (h .«stream_id») (at i)) (s : contains (h .flags) syn ≡ false) (r : contains (h .flags) rst ≡ false) (now : ℕ) where
+module _ (h : Header) (i : ℕ) (a : Acked) (k : Acks a (h .«stream_id») (at i)) (s : contains (h .flags) syn ≡ false) (r : contains (h .flags) rst ≡ false) (q : AckTaken h i (a .before) a) (now : ℕ) where
   abbrev now-there : Stream
   now-there = entry (a .conn .slots) i .stream
 
+  -- a FIN after the ACK step
+  goes : (t : Stream) (body : List ℕ) → t .state ≡ finish (contains (h .flags) fin) (now-there .state) →
+      Goes h (entry (a .before .slots) i) (takenEntry (entry (a .conn .slots) i) t (contains (h .flags) fin) body)
+  goes t body e = (
+    e ∙ ap (finish (contains (h .flags) fin)) q,
+    ap (cond (contains (h .flags) fin) (not (isClosed (t .state)))) (is-listed (h .«stream_id») (entry (a .conn .slots) i) (k .located .1)),
+  )
+
   takes-data : (body : List ℕ) → length body ≤ entry (a .before .slots) i .stream .flow .«receive_window» → length body ≤ room (a .before) →
-      Does (Takes body) (a .before) i (dataRules a h body (at i) now)
+      Does (Takes h body) (a .before) i (dataRules a h body (at i) now)
   unfolding dataRules knownData
   takes-data body w p =
       let o : length body ≤ now-there .flow .«receive_window» = rw (k .flows i) w in
-      rw (r, s, le-leb _ _ o) (stores h body i a k p (Takes body) _ _ (
+      rw (r, s, le-leb _ _ o) (stores h body i a k p (Takes h body) _ _ (
         refl,
         ap (λ (l : List ℕ). l ++ body) (k .bytes i),
         omega (arith, o) ∙ ap (λ (f : FlowController). f .«receive_window») (k .flows i),
+        goes (stream.dataTaken now-there (length body) (contains (h .flags) fin)) body refl,
       ))
 
   -- a writer that is woken has its slot told
@@ -64,36 +74,66 @@ module _ (h : Header) (i : ℕ) (a : Acked) (k : Acks a (h .«stream_id») (at i
   told false writer e = rw e
 
   takes-update : entry (a .before .slots) i .stream .flow .«send_window» + h .length .0 ≤ top →
-      Does (Credits i (h .length .0)) (a .before) i (updateRules a h (at i) now)
+      Does (Credits i h) (a .before) i (updateRules a h (at i) now)
   unfolding updateRules knownUpdate
   takes-update w =
       let o : now-there .flow .«send_window» + h .length .0 ≤ top = rw (k .flows i) w in
-      rw (r, s, le-leb _ _ o) (stores h [] i a k (omega arith) (Credits i (h .length .0)) _ _ (
+      rw (r, s, le-leb _ _ o) (stores h [] i a k (omega arith) (Credits i h) _ _ (
         refl,
         ap (λ (f : FlowController). f .«send_window» + h .length .0) (k .flows i),
         append-nil (entry (a .conn .slots) i .bytes) ∙ k .bytes i,
         k .waits i .1,
         (λ e. told (cond (contains (h .flags) fin) (now-there .reader) false) (now-there .writer) (k .waits i .1 ∙ e)),
         refl,
+        goes (stream.updateTaken now-there (record { 0 = h .length .0 }) (contains (h .flags) fin)) [] refl,
       ))
 
 pub data-is-taken : DataIsTaken
 unfolding frameRules
-data-is-taken c m now i head body f t l w p =
-    known c m now i head body tag.Data f t l (Takes body)
+data-is-taken c m now i head body f q t l w p =
+    known c m now i head body tag.Data f t l (Takes (f .header) body)
     (λ d. (length body ≤ entry (d .slots) i .stream .flow .«receive_window») × (length body ≤ room d))
     (λ a. dataRules a (f .header) body (at i) now) refl
-    (λ a k n. takes-data (f .header) i a k (f .noSyn) (f .noRst) now body (n .0) (n .1))
+    (λ a k s n. takes-data (f .header) i a k (q .0) (q .1) s now body (n .0) (n .1))
     (w, p)
 
 pub credit-is-added : CreditIsAdded
 unfolding frameRules
-credit-is-added c m now i head f t l w =
-    known c m now i head [] tag.WindowUpdate f t l (Credits i (f .header .length .0))
+credit-is-added c m now i head f q t l w =
+    known c m now i head [] tag.WindowUpdate f t l (Credits i (f .header))
     (λ d. entry (d .slots) i .stream .flow .«send_window» + f .header .length .0 ≤ top)
     (λ a. updateRules a (f .header) (at i) now) refl
-    (λ a k n. takes-update (f .header) i a k (f .noSyn) (f .noRst) now n)
+    (λ a k s n. takes-update (f .header) i a k (q .0) (q .1) s now n)
     w
+
+resets : (id : StreamId) (i : ℕ) (a : Acked) → Acks a id (at i) → entry (a .before .slots) i .listed ≡ true → Does Resets (a .before) i (onReset a (at i))
+unfolding onReset
+resets id i a k l =
+    let e = entry (a .conn .slots) i in
+    let held = k .inv .good i .holds (is-listed id e (k .located .1)) in
+    let x = getD-set-same (a .conn .slots) i (resetEntry e) vacant (k .located .0) in (
+      refl,
+      ap (λ (y : Entry). y .stream .state) x,
+      ap (λ (y : Entry). y .listed) x,
+      ap (λ (y : Entry). y .bytes) x ∙ k .bytes i,
+      ap (λ (y : Entry). y .held) x ∙ held ∙ sym (k .before .good i .holds l),
+    )
+
+-- both types come to the same rule
+to-reset :
+    (c : Conn) (h : Header) (body : List ℕ) (place : Place) (now : ℕ) (t : Tag) → (t ≡ tag.Data) ⊎ (t ≡ tag.WindowUpdate) → contains (h .flags) rst ≡ true →
+    frameRules t c h body place now ≡ onReset (ackStep c h place) place
+unfolding frameRules dataRules updateRules
+to-reset c h body place now t (inl e) r = rw (e, r)
+to-reset c h body place now t (inr e) r = rw (e, r)
+
+pub reset-is-taken : ResetIsTaken
+reset-is-taken c m now i head body t e f r time l =
+    known c m now i head body t f time l Resets
+    (λ d. entry (d .slots) i .listed ≡ true)
+    (λ a. onReset a (at i)) (to-reset c (f .header) body (at i) now t e r)
+    (λ a k s n. resets (f .header .«stream_id») i a k n)
+    l
 
 -- ---- a frame that makes a stream
 
@@ -162,6 +202,7 @@ sends c i given n h l =
       rw k,
       ap (λ (y : Entry). y .stream .flow .«send_window» + n) x ∙ omega (arith, l),
       ap (λ (y : Entry). y .stream .flag) x,
+      ap (λ (y : Entry). y .stream .state) x,
     )
 
 pub write-is-sent : WriteIsSent

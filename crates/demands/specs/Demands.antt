@@ -58,6 +58,7 @@ opens c h body = admits c h (leb (length body) initialWindow)
 abbrev pub opensByCredit : Conn → Header → Bool
 opensByCredit c h = admits c h (leb (h .length .0 + initialWindow) top)
 
+-- of a frame that needs room for its stream: a WindowUpdate queues nothing, so it needs none
 abbrev pub opensAs : Tag → Conn → Header → List ℕ → Bool
 opensAs tag.Data c h body = opens c h body
 opensAs tag.WindowUpdate c h body = false

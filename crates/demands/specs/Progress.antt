@@ -2,7 +2,7 @@
 -- first frame and then feigns the rest": in every reached state that goes on, what the rules allow is done, and is seen afterwards.
 use mathlib.Core.Path.{_≡_}
 use mathlib.Core.Logic.{_≢_, _⊎_}
-use mathlib.Core.Bool.{Bool, true, false, cond}
+use mathlib.Core.Bool.{Bool, true, false, cond, not}
 use mathlib.Core.List.{List, [], _++_}
 use Prim.Native.Nat.{ℕ, _+_, _≤_, _<_}
 use lib.ListN.{length, take}
@@ -17,7 +17,7 @@ use Rattle.rtt.specs.Pings.{elapsed, idAfter}
 use Rattle.rtt.specs.declared.RttState.the-variants.{Waiting, AwaitingPong}
 use Rattle.rtt.specs.declared.RoundTrip.the-variants.{Known}
 use Rattle.flow_control.specs.Windows.{top}
-use Rattle.stream.specs.States.{canWrite}
+use Rattle.stream.specs.States.{canWrite, isClosed, acknowledge, finish}
 use Rattle.stream.specs.Streams.{newInbound, newOutbound, dataTaken, addFlag, owesAck, writeCount}
 use Rattle.stream.specs.declared.State.{State}
 use Rattle.stream.specs.declared.State.the-variants.{Open, SendClosed, RecvClosed, Closed}
@@ -39,50 +39,82 @@ use Rattle.demands.specs.Demands.{Reach, heldCount, opens, opensByCredit
 use Rattle.demands.specs.Theorems.{Gave}
 use Rattle.demands.specs.Handles.{Drops}
 
--- a frame of type t without SYN and RST for the stream in slot i, its body as long as the type and the header say
+-- a frame of type t for the stream in slot i, its body as long as the type and the header say
 pub record FrameFor (t : Tag) (c : Conn) (i : ℕ) (head body : List ℕ) : Type 0 where
   pub header : Header
   pub decodes : decoded head ≡ found.Header header
   pub isOf : header .tag ≡ t
-  pub noSyn : contains (header .flags) syn ≡ false
-  pub noRst : contains (header .flags) rst ≡ false
   pub names : header .«stream_id» ≡ entry (c .slots) i .stream .id
   pub long : length body ≡ bodyLength t (header .length .0)
 
--- done, the body behind the unread bytes, the receive window less the body
-abbrev pub Takes : List ℕ → Entry → Outcome → Entry → Type 0
-Takes body old o new =
+-- neither SYN nor RST
+abbrev pub Plain : Header → Type 0
+Plain h = (contains (h .flags) syn ≡ false) × (contains (h .flags) rst ≡ false)
+
+-- "with ACK, .. goes to Open acknowledged if it is Open": the state of a stream after a frame, received or sent, with ACK or without
+abbrev pub ackTaken : Bool → State → State
+ackTaken acks q = cond acks (acknowledge q) q
+
+-- "FIN (next state RecvClosed)", after the ACK step; "A stream Closed after a FIN leaves the table", and any other stays in it.
+abbrev pub Goes : Header → Entry → Entry → Type 0
+Goes h old new =
+    (new .stream .state ≡ finish (contains (h .flags) fin) (ackTaken (contains (h .flags) ack) (old .stream .state)))
+    × (new .listed ≡ cond (contains (h .flags) fin) (not (isClosed (new .stream .state))) true)
+
+-- done, the body behind the unread bytes, the receive window less the body, and the state as ACK and FIN make it
+abbrev pub Takes : Header → List ℕ → Entry → Outcome → Entry → Type 0
+Takes h body old o new =
     (o .reply ≡ reply.Done)
     × (new .bytes ≡ old .bytes ++ body)
     × (new .stream .flow .«receive_window» + length body ≡ old .stream .flow .«receive_window»)
+    × Goes h old new
 
--- Data for a stream in the table, within its receive window and the room, is done: the body stands behind the unread bytes, and
--- the window falls by it. This holds in every reached state, so after any frames, not only after the first.
+-- Data without SYN and RST for a stream in the table, within its receive window and the room, is done: the body stands behind the
+-- unread bytes, and the window falls by it. This holds in every reached state, so after any frames, not only after the first.
 abbrev pub DataIsTaken : Type 0
 DataIsTaken =
-    (c : Conn) → Reach c → (now i : ℕ) (head body : List ℕ) → FrameFor tag.Data c i head body → now ≤ lastTime → entry (c .slots) i .listed ≡ true →
+    (c : Conn) → Reach c → (now i : ℕ) (head body : List ℕ) (f : FrameFor tag.Data c i head body) → Plain (f .header) → now ≤ lastTime → entry (c .slots) i .listed ≡ true →
     length body ≤ entry (c .slots) i .stream .flow .«receive_window» → length body ≤ room c →
     let r = step c (rules.frame now head body) in
-    Takes body (entry (c .slots) i) (r .outcome) (entry (r .after .slots) i)
+    Takes (f .header) body (entry (c .slots) i) (r .outcome) (entry (r .after .slots) i)
 
 -- "credit added, .. writer woken": done, the send window of slot i more by the credit, the unread bytes as they were; a writer that
--- waited is told, with the slot, and waits no more.
-abbrev pub Credits : ℕ → ℕ → Entry → Outcome → Entry → Type 0
-Credits i credit old o new =
+-- waited is told, with the slot, and waits no more. The state is as ACK and FIN make it.
+abbrev pub Credits : ℕ → Header → Entry → Outcome → Entry → Type 0
+Credits i h old o new =
     (o .reply ≡ reply.Done)
-    × (new .stream .flow .«send_window» ≡ old .stream .flow .«send_window» + credit)
+    × (new .stream .flow .«send_window» ≡ old .stream .flow .«send_window» + h .length .0)
     × (new .bytes ≡ old .bytes)
     × (o .wakes .writer ≡ old .stream .writer)
     × (old .stream .writer ≡ true → o .slot ≡ which.At (record { 0 = i }))
     × (new .stream .writer ≡ false)
+    × Goes h old new
 
--- A WindowUpdate for a stream in the table, whose credit takes its send window to at most 2^32-1, is done and adds it.
+-- A WindowUpdate without SYN and RST for a stream in the table, whose credit takes its send window to at most 2^32-1, is done and
+-- adds it.
 abbrev pub CreditIsAdded : Type 0
 CreditIsAdded =
-    (c : Conn) → Reach c → (now i : ℕ) (head : List ℕ) (f : FrameFor tag.WindowUpdate c i head []) → now ≤ lastTime → entry (c .slots) i .listed ≡ true →
+    (c : Conn) → Reach c → (now i : ℕ) (head : List ℕ) (f : FrameFor tag.WindowUpdate c i head []) → Plain (f .header) → now ≤ lastTime → entry (c .slots) i .listed ≡ true →
     entry (c .slots) i .stream .flow .«send_window» + f .header .length .0 ≤ top →
     let r = step c (rules.frame now head []) in
-    Credits i (f .header .length .0) (entry (c .slots) i) (r .outcome) (entry (r .after .slots) i)
+    Credits i (f .header) (entry (c .slots) i) (r .outcome) (entry (r .after .slots) i)
+
+-- "a known stream becomes Closed, leaves the table": done, the unread bytes and the handle as they were
+abbrev pub Resets : Entry → Outcome → Entry → Type 0
+Resets old o new =
+    (o .reply ≡ reply.Done)
+    × (new .stream .state ≡ Closed)
+    × (new .listed ≡ false)
+    × (new .bytes ≡ old .bytes)
+    × (new .held ≡ old .held)
+
+-- Data or a WindowUpdate with RST for a stream in the table, whatever its other flags and its body, is done and resets it.
+abbrev pub ResetIsTaken : Type 0
+ResetIsTaken =
+    (c : Conn) → Reach c → (now i : ℕ) (head body : List ℕ) (t : Tag) → (t ≡ tag.Data) ⊎ (t ≡ tag.WindowUpdate) → (f : FrameFor t c i head body) →
+    contains (f .header .flags) rst ≡ true → now ≤ lastTime → entry (c .slots) i .listed ≡ true →
+    let r = step c (rules.frame now head body) in
+    Resets (entry (c .slots) i) (r .outcome) (entry (r .after .slots) i)
 
 -- "the lowest free one is taken": the lowest slot that was free before the call is the one told, and holds the entry after it.
 abbrev pub InLowest : Conn → Result → Entry → Type 0
@@ -118,7 +150,7 @@ OpenIsGiven =
     Gave r (c .nextId) × InLowest c r (newEntry (newOutbound (record { 0 = c .nextId }) now) [])
 
 -- "the window falls by n, and a Data frame carries the first n bytes": n bytes of those given are sent for slot i, under a Data header
--- of the stream, of length n and with the flag that is owed, and then owed no more.
+-- of the stream, of length n and with the flag that is owed, and then owed no more; "a write with ACK acknowledges".
 abbrev pub Sends : Conn → ℕ → List ℕ → ℕ → Result → Type 0
 Sends c i given n r =
     let s = entry (c .slots) i .stream in
@@ -133,6 +165,7 @@ Sends c i given n r =
     })
     × (entry (r .after .slots) i .stream .flow .«send_window» + n ≡ s .flow .«send_window»)
     × (entry (r .after .slots) i .stream .flag ≡ owed.None)
+    × (entry (r .after .slots) i .stream .state ≡ ackTaken (owesAck (s .flag)) (s .state))
 
 -- A write on a held handle that may write, with its send window open, sends min(window, given, split) bytes.
 abbrev pub WriteIsSent : Type 0
