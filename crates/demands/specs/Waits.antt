@@ -26,6 +26,10 @@ use Rattle.demands.specs.Demands.{Reach}
 abbrev pub Clears : Bool → Bool → Type 0
 Clears before after = (before ≡ true) × (after ≡ false)
 
+-- a mark that is off before a call and on after it
+abbrev pub Sets : Bool → Bool → Type 0
+Sets before after = (before ≡ false) × (after ≡ true)
+
 -- ---- whose waits a call wakes
 
 abbrev pub wokenDecoded : Decoded → Conn → Place
@@ -132,6 +136,25 @@ WaitsAreSet =
     (c : Conn) → Reach c → (k : rules.Call) →
     let r = step c k in
     r .outcome .reply ≡ reply.Wait → Waiting k (r .after) × (r .outcome .value ≡ value.None)
+
+abbrev pub Opens : rules.Call → Type 0
+Opens k = (now : ℕ) × (k ≡ rules.open-stream now)
+
+abbrev pub Reads : rules.Call → ℕ → Type 0
+Reads k j = (now : ℕ) × (asked : ℕ) × (k ≡ rules.read now j asked)
+
+abbrev pub Writes : rules.Call → ℕ → Type 0
+Writes k j = (now : ℕ) × (given : List ℕ) × (k ≡ rules.write now j given)
+
+-- No other call sets a mark: the open's is set by an open that waits, the reader of slot j by a read of it that waits, the writer by
+-- a write that waits.
+abbrev pub OnlyWaitsSet : Type 0
+OnlyWaitsSet =
+    (c : Conn) → Reach c → (k : rules.Call) →
+    let r = step c k in
+    (Sets (c .openWait) (r .after .openWait) → Opens k × (r .outcome .reply ≡ reply.Wait))
+    × ((j : ℕ) → Sets (entry (c .slots) j .stream .reader) (entry (r .after .slots) j .stream .reader) → Reads k j × (r .outcome .reply ≡ reply.Wait))
+    × ((j : ℕ) → Sets (entry (c .slots) j .stream .writer) (entry (r .after .slots) j .stream .writer) → Writes k j × (r .outcome .reply ≡ reply.Wait))
 
 -- "Woken means: cleared and reported if it was waiting": a mark before and after a call, and what is told of it
 abbrev pub IsWoken : Bool → Bool → Bool → Type 0
