@@ -27,10 +27,10 @@ use Rattle.rules.specs.Replies.{Outcome, number, leavesAll}
 use Rattle.rules.specs.Lists.{Place, at, nowhere}
 use Rattle.rules.specs.State.{Entry, Conn, vacant, entry, isFree, hasId, find, lowestFree, isRemote, listedCount, room, withSlot, withOpenWait}
 use Rattle.rules.specs.Ending.{Result, gives, refuse, endEntry, ended}
-use Rattle.rules.specs.Frames.{Acked, ackStep, answer, whose, goAway, onReset, resetEntry, newEntry, makeAt, make, isKnown, synRules, synData, openedBy, synUpdate, takenEntry, takeAt, knownData, knownUpdate, dataRules, updateRules, unacked, pongRules, pingRules, answersPing, frameRules, bodyLength, onHeader}
+use Rattle.rules.specs.Frames.{Acked, ackStep, answer, whose, frameWakes, quiet, goAway, onReset, resetEntry, newEntry, makeAt, make, isKnown, synRules, synData, openedBy, synUpdate, takenEntry, takeAt, knownData, knownUpdate, dataRules, updateRules, unacked, pongRules, pingRules, answersPing, frameRules, bodyLength, onHeader}
 use Rattle.rules.proofs.Lists.{Says, first-says}
 use Rattle.demands.specs.History.{isDone}
-use Rattle.demands.specs.Waits.{IsWoken, hasAckStep, wakesReader, wakesWriter}
+use Rattle.demands.specs.Waits.{IsWoken, Fares, hasAckStep, wakesReader, wakesWriter}
 use Rattle.demands.proofs.Lists.{split, true-not-false, at-set}
 use Rattle.demands.proofs.Invariant.{Inv}
 use Rattle.demands.proofs.Sound.{at-end}
@@ -87,9 +87,16 @@ end-set c =
 
 -- ---- what is shown of a frame
 
--- of a stream that is s before and t after, the reader and the writer are woken where they are to be
+-- of a stream that is s before and t after, the reader and the writer are woken where they are to be, and else left
 abbrev pub Woken : Bool → Bool → Stream → Stream → Bool → Bool → Type 0
-Woken reader writer s t r w = (reader ≡ true → IsWoken (s .reader) (t .reader) r) × (writer ≡ true → IsWoken (s .writer) (t .writer) w)
+Woken reader writer s t r w = Fares reader (s .reader) (t .reader) r × Fares writer (s .writer) (t .writer) w
+
+-- a mark that is to be woken and is, and one that is to be left and is
+fares-woken : (b mark : Bool) → b ≡ true → Fares b mark false mark
+fares-woken b mark e = ((λ t. (refl, refl)), (λ f. true-not-false e f))
+
+fares-left : (b mark : Bool) → b ≡ false → Fares b mark mark false
+fares-left b mark e = ((λ t. true-not-false t e), (λ f. (refl, refl)))
 
 -- of a frame on c for the stream at a place, whose ACK step is a: only replies that change nothing undo that step
 pub record Passes (c : Conn) (a : Acked) (place : Place) (reader writer : Bool) (r : Result) : Type 0 where
@@ -105,9 +112,16 @@ module _ (c : Conn) (a : Acked) (place : Place) where
   undone : (reader writer : Bool) (q : Reply) → isWait q ≡ false → isDone q ≡ false → leavesAll q ≡ true → Passes c a place reader writer (refuse c q)
   undone reader writer q w d l = record { prompt = w; next = refl; unset = none-set (c .slots); mark = inl refl; opener = λ n. true-not-false l n; woken = λ i e n. not-done q d n }
 
-  -- a frame that is to wake nobody
-  still : (o : Outcome) (d : Conn) → isWait (o .reply) ≡ false → d .nextId ≡ c .nextId → NoneSet (c .slots) (d .slots) → d .openWait ≡ a .conn .openWait → o .wakes .opener ≡ a .woke → Passes c a place false false (gives o d)
-  still o d p n u e w = record { prompt = p; next = n; unset = u; mark = inr e; opener = λ l. (e, w); woken = λ i q r. ((λ t. true-not-false t refl), (λ t. true-not-false t refl)) }
+  -- a frame that is to wake nobody, and leaves all slots
+  still : (o : Outcome) (d : Conn) → isWait (o .reply) ≡ false → d .nextId ≡ c .nextId → d .slots ≡ c .slots → d .openWait ≡ a .conn .openWait → o .wakes ≡ frameWakes a quiet → Passes c a place false false (gives o d)
+  still o d p n s e w = record {
+    prompt = p;
+    next = n;
+    unset = rw s (none-set (c .slots));
+    mark = inr e;
+    opener = λ l. (e, rw w);
+    woken = λ i q r. let t = entry (c .slots) i .stream in rw (s, w) (fares-left false (t .reader) refl, fares-left false (t .writer) refl);
+  }
 
 -- ---- Data and WindowUpdate, after an ACK step
 
@@ -145,10 +159,14 @@ module _ (h : Header) (a : Acked) (reader writer : Bool) where
         (rw (getD-set-same (a .conn .slots) i x vacant (k .located .0), ← k .waits i .0, ← k .waits i .1) m);
   }
 
-  resets : (place : Place) → Acks a (h .«stream_id») place → Ok place (onReset a place)
+  -- a reset wakes both
+  resets : reader ≡ true → writer ≡ true → (place : Place) → Acks a (h .«stream_id») place → Ok place (onReset a place)
   unfolding onReset
-  resets nowhere k = unknown _ _ refl (k .next) (same h a k .1) refl refl
-  resets (at i) k = changes i k _ (resetEntry (entry (a .conn .slots) i)) ((λ e. (refl, refl)), (λ e. (refl, refl))) (off-fewer (entry (a .conn .slots) i .stream) (resetEntry (entry (a .conn .slots) i) .stream) (refl, refl))
+  resets r w nowhere k = unknown _ _ refl (k .next) (same h a k .1) refl refl
+  resets r w (at i) k =
+      let e = entry (a .conn .slots) i in
+      let s = e .stream in
+      changes i k _ (resetEntry e) (fares-woken reader (s .reader) r, fares-woken writer (s .writer) w) (off-fewer s (resetEntry e .stream) (refl, refl))
 
   makes-at : Same h a → (p : Place) → Says isFree (a .conn .slots) vacant p → (s : Stream) → Off s → (body : List ℕ) → Ok nowhere (makeAt p a s body)
   unfolding makeAt
@@ -181,11 +199,11 @@ module _ (h : Header) (a : Acked) (reader writer : Bool) where
       (λ r. undone (a .before) a (at i) reader writer reply.NoRoom refl refl refl)
       (λ r. changes i k w (takenEntry (entry (a .conn .slots) i) s (contains (h .flags) fin) body) m f)
 
--- without RST a WindowUpdate wakes the reader where it has FIN
-fin-wakes : (r f mark : Bool) → r ≡ false → cond r true f ≡ true → IsWoken mark (cond f false mark) (cond f mark false)
-fin-wakes true f mark n e = true-not-false refl n
-fin-wakes false true mark n e = (refl, refl)
-fin-wakes false false mark n e = true-not-false e refl
+-- without RST a WindowUpdate wakes the reader where it has FIN, and only there
+fin-wakes : (r f mark : Bool) → r ≡ false → Fares (cond r true f) mark (cond f false mark) (cond f mark false)
+fin-wakes true f mark n = true-not-false refl n
+fin-wakes false true mark n = fares-woken true mark refl
+fin-wakes false false mark n = fares-left false mark refl
 
 fin-keeps : (f mark : Bool) → cond f false mark ≡ true → mark ≡ true
 fin-keeps true mark e = true-not-false e refl
@@ -198,19 +216,21 @@ module _ (h : Header) (a : Acked) (now : ℕ) where
   known-data : contains (h .flags) rst ≡ false → (place : Place) → Acks a (h .«stream_id») place → (body : List ℕ) → After tag.Data place (knownData a h body place)
   unfolding knownData
   known-data r nowhere k body = unknown h a _ _ _ _ refl (k .next) (same h a k .1) refl refl
-  known-data r (at i) k body = takes h a _ _ i k body (leb (length body) (entry (a .conn .slots) i .stream .flow .«receive_window»)) _ _ ((λ e. (refl, refl)), (λ e. true-not-false e r)) ((λ e. true-not-false e refl), (λ e. e))
+  known-data r (at i) k body =
+      let s = entry (a .conn .slots) i .stream in
+      takes h a _ _ i k body (leb (length body) (s .flow .«receive_window»)) _ _ (fares-woken true (s .reader) refl, fares-left (contains (h .flags) rst) (s .writer) r) ((λ e. true-not-false e refl), (λ e. e))
 
   known-update : contains (h .flags) rst ≡ false → (place : Place) → Acks a (h .«stream_id») place → After tag.WindowUpdate place (knownUpdate a h place)
   unfolding knownUpdate
   known-update r nowhere k = unknown h a _ _ _ _ refl (k .next) (same h a k .1) refl refl
   known-update r (at i) k =
       let s = entry (a .conn .slots) i .stream in
-      takes h a _ _ i k [] (leb (s .flow .«send_window» + h .length .0) top) _ _ (fin-wakes (contains (h .flags) rst) (contains (h .flags) fin) (s .reader) r, (λ e. (refl, refl))) (fin-keeps (contains (h .flags) fin) (s .reader), (λ e. true-not-false e refl))
+      takes h a _ _ i k [] (leb (s .flow .«send_window» + h .length .0) top) _ _ (fin-wakes (contains (h .flags) rst) (contains (h .flags) fin) (s .reader) r, fares-woken true (s .writer) refl) (fin-keeps (contains (h .flags) fin) (s .reader), (λ e. true-not-false e refl))
 
   data-rules : (place : Place) → Acks a (h .«stream_id») place → (body : List ℕ) → After tag.Data place (dataRules a h body place now)
   unfolding dataRules synData
   data-rules place k body =
-      split (After tag.Data place) (contains (h .flags) rst) (λ r. resets h a _ _ place k) (λ r.
+      split (After tag.Data place) (contains (h .flags) rst) (λ r. resets h a _ _ refl r place k) (λ r.
       split (After tag.Data place) (contains (h .flags) syn)
       (λ s. syns h a _ _ place (same h a k) internalError (ltb initialWindow (length body)) (stream.dataTaken (stream.newInbound (h .«stream_id») initialWindow now) (length body) (contains (h .flags) fin)) (refl, refl) body)
       (λ s. known-data r place k body))
@@ -218,7 +238,7 @@ module _ (h : Header) (a : Acked) (now : ℕ) where
   update-rules : (place : Place) → Acks a (h .«stream_id») place → After tag.WindowUpdate place (updateRules a h place now)
   unfolding updateRules synUpdate
   update-rules place k =
-      split (After tag.WindowUpdate place) (contains (h .flags) rst) (λ r. resets h a _ _ place k) (λ r.
+      split (After tag.WindowUpdate place) (contains (h .flags) rst) (λ r. resets h a _ _ (rw r) refl place k) (λ r.
       split (After tag.WindowUpdate place) (contains (h .flags) syn)
       (λ s. syns h a _ _ place (same h a k) protocolError (ltb top (h .length .0 + initialWindow)) (openedBy h now) (refl, refl) [])
       (λ s. known-update r place k))
@@ -269,8 +289,8 @@ module _ (c : Conn) (v : Inv c) (live : c .ended ≡ false) (h : Header) (body :
 
   pongs : (p : Pong) → FrameOk (unacked c) tag.Ping (pongRules c p)
   unfolding pongRules
-  pongs Unexpected = still c (unacked c) place _ _ refl refl (none-set (c .slots)) refl refl
-  pongs (Accepted p) = still c (unacked c) place _ _ refl refl (none-set (c .slots)) refl refl
+  pongs Unexpected = still c (unacked c) place _ _ refl refl refl refl refl
+  pongs (Accepted p) = still c (unacked c) place _ _ refl refl refl refl refl
 
   pings : FrameOk (unacked c) tag.Ping (pingRules c h now)
   unfolding pingRules
@@ -279,15 +299,15 @@ module _ (c : Conn) (v : Inv c) (live : c .ended ≡ false) (h : Header) (body :
       (λ e. pongs (handlePong (c .pings) (h .length .0) now (c .config .interval)))
       (λ e.
       split (FrameOk (unacked c) tag.Ping) (answersPing c (h .«stream_id»))
-      (λ s. still c (unacked c) place _ _ refl refl (none-set (c .slots)) refl refl)
-      (λ s. still c (unacked c) place _ _ refl refl (none-set (c .slots)) refl refl))
+      (λ s. still c (unacked c) place _ _ refl refl refl refl refl)
+      (λ s. still c (unacked c) place _ _ refl refl refl refl refl))
 
   frames : (t : Tag) → FrameOk (acked t c h place) t (frameRules t c h body place now)
   unfolding frameRules
   frames tag.Data = after tag.Data (λ a. dataRules a h body place now) (λ a k. data-rules h a now place k body)
   frames tag.WindowUpdate = after tag.WindowUpdate (λ a. updateRules a h place now) (λ a k. update-rules h a now place k)
   frames tag.Ping = pings
-  frames tag.GoAway = still c _ place _ _ refl refl (end-set c) refl refl
+  frames tag.GoAway = record { prompt = refl; next = refl; unset = end-set c; mark = inr refl; opener = λ l. (refl, refl); woken = λ i e d. not-done _ refl d }
 
   pub headers : FrameOk (acked (h .tag) c h place) (h .tag) (onHeader c h body now)
   unfolding onHeader

@@ -160,6 +160,14 @@ OnlyWaitsSet =
 abbrev pub IsWoken : Bool → Bool → Bool → Type 0
 IsWoken before after told = (after ≡ false) × (told ≡ before)
 
+-- not woken: left as it was, and nothing told of it
+abbrev pub IsLeft : Bool → Bool → Bool → Type 0
+IsLeft before after told = (after ≡ before) × (told ≡ false)
+
+-- who is to be woken is, and who is not is left
+abbrev pub Fares : Bool → Bool → Bool → Bool → Type 0
+Fares wakes before after told = (wakes ≡ true → IsWoken before after told) × (wakes ≡ false → IsLeft before after told)
+
 -- "Data and WindowUpdate first": the types that have an ACK step
 abbrev pub hasAckStep : Tag → Bool
 hasAckStep tag.Data = true
@@ -188,7 +196,7 @@ wakesWriter tag.WindowUpdate h = true
 wakesWriter tag.Ping h = false
 wakesWriter tag.GoAway h = false
 
--- A frame that is done for the stream in slot i of the table wakes those of it. (That the slot told is i, `ReportsAreOfWaits` says.)
+-- A frame that is done for the stream in slot i of the table wakes those of it, and no other. (That the slot told is i, `ReportsAreOfWaits` says.)
 abbrev pub TakenWakes : Type 0
 TakenWakes =
     (c : Conn) → Reach c → (now i : ℕ) (head body : List ℕ) (h : Header) → decoded head ≡ found.Header h → find (c .slots) (h .«stream_id») ≡ at i →
@@ -196,5 +204,5 @@ TakenWakes =
     let before = entry (c .slots) i .stream in
     let after = entry (r .after .slots) i .stream in
     r .outcome .reply ≡ reply.Done →
-    (wakesReader (h .tag) h ≡ true → IsWoken (before .reader) (after .reader) (r .outcome .wakes .reader))
-    × (wakesWriter (h .tag) h ≡ true → IsWoken (before .writer) (after .writer) (r .outcome .wakes .writer))
+    Fares (wakesReader (h .tag) h) (before .reader) (after .reader) (r .outcome .wakes .reader)
+    × Fares (wakesWriter (h .tag) h) (before .writer) (after .writer) (r .outcome .wakes .writer)
