@@ -53,7 +53,7 @@ module _ (c : Conn) (i : ℕ) (held : entry (c .slots) i .held ≡ true) where
   -- ---- read
 
   -- the window step leaves the marks
-  steps : (now : ℕ) → SameWaits (windowStep c old now .stream) (old .stream)
+  pub steps : (now : ℕ) → SameWaits (windowStep c old now .stream) (old .stream)
   unfolding windowStep
   steps now = split (λ (u : Updated). SameWaits (u .stream) (old .stream)) (canRead (old .stream .state)) (λ r. (refl, refl)) (λ r. (refl, refl))
 
@@ -96,7 +96,7 @@ module _ (c : Conn) (i : ℕ) (held : entry (c .slots) i .held ≡ true) where
       (λ z. calm c own mine _ _ refl refl (clear-kept (c .openWait)) (slot-marks _ (stay s))))
       (λ a. refused c own mine nowhere reply.WriteClosed))
 
-  close-same : (t : State) (s : Stream) → SameWaits (stream.closeIn t s .stream) s
+  pub close-same : (t : State) (s : Stream) → SameWaits (stream.closeIn t s .stream) s
   close-same (Open a) s = (refl, refl)
   close-same SendClosed s = (refl, refl)
   close-same RecvClosed s = (refl, refl)

@@ -1,14 +1,13 @@
 -- Waits that are cleared are reported, and what is reported was waiting. Assumes nothing.
 use mathlib.Core.Path.{_≡_, refl, sym, ap, _∙_, subst}
 use mathlib.Core.Logic.{_⊎_, inl, inr}
-use mathlib.Core.Bool.{Bool, true, false, cond}
+use mathlib.Core.Bool.{Bool, true, false}
 use mathlib.Core.List.{List}
 use Prim.Native.Nat.{ℕ}
 use native.Mathlib.Decide.{ℕ-discrete}
 use Rattle.frame.specs.Wire.{decoded}
 use Rattle.frame.specs.declared.header.Decoded.{Decoded}
 use Rattle.frame.specs.declared.header.Decoded.the-variants as found
-use Rattle.stream.specs.Streams as stream
 use Rattle.stream.specs.declared.Stream.{Stream}
 use Rattle.rules.specs.declared.Reply.the-variants as reply
 use Rattle.rules.specs.Lists.{Place, at, nowhere}
@@ -25,7 +24,7 @@ use Rattle.demands.proofs.Steps.{sound, reached}
 use Rattle.demands.proofs.Stale.{found-at}
 use Rattle.demands.proofs.Marks.{cleared, Reports, Goes, Ends, Waits, refused, timed-ok, live-ok, holding-ok, itself, none, headers}
 use Rattle.demands.proofs.OwnMarks.{reads, writes, closes, drops, opens, ticks}
-use Rattle.demands.proofs.Woken.{at-is, not-at}
+use Rattle.demands.proofs.Woken.{at-is, not-at, end-off}
 
 -- ---- every call
 
@@ -201,10 +200,6 @@ module _ (c : Conn) (v : Inv c) (k : rules.Call) where
   told-ends : Shown → r .outcome .wakes .all ≡ true → Ends c r
   told-ends (inl e) t = e
   told-ends (inr g) t = true-not-false t (g .all)
-
-  end-off : (b : Bool) (s : Stream) → let x = cond b (stream.closed s) (stream.withWaits s false false) in (x .reader ≡ false) × (x .writer ≡ false)
-  end-off true s = (refl, refl)
-  end-off false s = (refl, refl)
 
   ends-off : Ends c r → (j : ℕ) → (later j .reader ≡ false) × (later j .writer ≡ false)
   ends-off e j =

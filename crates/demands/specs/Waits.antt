@@ -26,6 +26,10 @@ use Rattle.demands.specs.Demands.{Reach}
 abbrev pub Clears : Bool → Bool → Type 0
 Clears before after = (before ≡ true) × (after ≡ false)
 
+-- a mark that is off before a call and on after it
+abbrev pub Sets : Bool → Bool → Type 0
+Sets before after = (before ≡ false) × (after ≡ true)
+
 -- ---- whose waits a call wakes
 
 abbrev pub wokenDecoded : Decoded → Conn → Place
@@ -133,9 +137,36 @@ WaitsAreSet =
     let r = step c k in
     r .outcome .reply ≡ reply.Wait → Waiting k (r .after) × (r .outcome .value ≡ value.None)
 
+abbrev pub Opens : rules.Call → Type 0
+Opens k = (now : ℕ) × (k ≡ rules.open-stream now)
+
+abbrev pub Reads : rules.Call → ℕ → Type 0
+Reads k j = (now : ℕ) × (asked : ℕ) × (k ≡ rules.read now j asked)
+
+abbrev pub Writes : rules.Call → ℕ → Type 0
+Writes k j = (now : ℕ) × (given : List ℕ) × (k ≡ rules.write now j given)
+
+-- No other call sets a mark: the open's is set by an open that waits, the reader of slot j by a read of it that waits, the writer by
+-- a write that waits.
+abbrev pub OnlyWaitsSet : Type 0
+OnlyWaitsSet =
+    (c : Conn) → Reach c → (k : rules.Call) →
+    let r = step c k in
+    (Sets (c .openWait) (r .after .openWait) → Opens k × (r .outcome .reply ≡ reply.Wait))
+    × ((j : ℕ) → Sets (entry (c .slots) j .stream .reader) (entry (r .after .slots) j .stream .reader) → Reads k j × (r .outcome .reply ≡ reply.Wait))
+    × ((j : ℕ) → Sets (entry (c .slots) j .stream .writer) (entry (r .after .slots) j .stream .writer) → Writes k j × (r .outcome .reply ≡ reply.Wait))
+
 -- "Woken means: cleared and reported if it was waiting": a mark before and after a call, and what is told of it
 abbrev pub IsWoken : Bool → Bool → Bool → Type 0
 IsWoken before after told = (after ≡ false) × (told ≡ before)
+
+-- not woken: left as it was, and nothing told of it
+abbrev pub IsLeft : Bool → Bool → Bool → Type 0
+IsLeft before after told = (after ≡ before) × (told ≡ false)
+
+-- who is to be woken is, and who is not is left
+abbrev pub Fares : Bool → Bool → Bool → Bool → Type 0
+Fares wakes before after told = (wakes ≡ true → IsWoken before after told) × (wakes ≡ false → IsLeft before after told)
 
 -- "Data and WindowUpdate first": the types that have an ACK step
 abbrev pub hasAckStep : Tag → Bool
@@ -165,7 +196,7 @@ wakesWriter tag.WindowUpdate h = true
 wakesWriter tag.Ping h = false
 wakesWriter tag.GoAway h = false
 
--- A frame that is done for the stream in slot i of the table wakes those of it. (That the slot told is i, `ReportsAreOfWaits` says.)
+-- A frame that is done for the stream in slot i of the table wakes those of it, and no other. (That the slot told is i, `ReportsAreOfWaits` says.)
 abbrev pub TakenWakes : Type 0
 TakenWakes =
     (c : Conn) → Reach c → (now i : ℕ) (head body : List ℕ) (h : Header) → decoded head ≡ found.Header h → find (c .slots) (h .«stream_id») ≡ at i →
@@ -173,5 +204,5 @@ TakenWakes =
     let before = entry (c .slots) i .stream in
     let after = entry (r .after .slots) i .stream in
     r .outcome .reply ≡ reply.Done →
-    (wakesReader (h .tag) h ≡ true → IsWoken (before .reader) (after .reader) (r .outcome .wakes .reader))
-    × (wakesWriter (h .tag) h ≡ true → IsWoken (before .writer) (after .writer) (r .outcome .wakes .writer))
+    Fares (wakesReader (h .tag) h) (before .reader) (after .reader) (r .outcome .wakes .reader)
+    × Fares (wakesWriter (h .tag) h) (before .writer) (after .writer) (r .outcome .wakes .writer)
