@@ -1,15 +1,13 @@
 -- Texts stored one after another are stored as one. Assumes nothing.
 use mathlib.Core.Path.{_≡_, refl, sym, ap, _∙_}
 use mathlib.Core.List.{List, [], _∷_, _++_, append-assoc}
-use Prim.Native.Nat.{ℕ, suc, _+_, _≤_}
+use Prim.Native.Nat.{ℕ, suc, _+_, _≤_, _<_}
 use native.Mathlib.Nat.{add-zero, add-assoc}
 use native.Mathlib.Numerals.{add-one}
 use native.Mathlib.Omega.{arith}
 use lib.ListN.{length, take, drop, set, length-append, length-set}
 use lib.Seq.{sets, sets-eq}
-use mathlib.Core.Bool.{true, false}
-use lib.Dec.{leb}
-use borrow.Author.Tests.{leb-true}
+use borrow.Author.Tests.{le-leb, lt-leb}
 use Rattle.lines.specs.declared.Put.the-variants.{At, Full}
 use Rattle.lines.specs.Writing.{Stores, Writes}
 
@@ -48,11 +46,11 @@ module _ (o : List ℕ) (at : ℕ) where
       record { next = refl; left = rw (e₁, e₂, e₃); size = simp length-set }
 
 -- what is stored with room is written
-pub writes : (room : ℕ) {o text o′ : List ℕ} {at r : ℕ} → leb (at + room) (length o) ≡ true → r ≤ at + room → Stores o at text o′ r
+pub writes : (room : ℕ) {o text o′ : List ℕ} {at r : ℕ} → at + room ≤ length o → r ≤ at + room → Stores o at text o′ r
     → Writes room o at text o′ (At r)
-writes room {o} {text} {o′} {at} {r} e l h =
-    let f : at + room ≤ length o = leb-true _ _ e in
+writes room {o} {text} {o′} {at} {r} f l h =
+    let e = le-leb _ _ f in
     record { answer = rw (e, h .next); left = rw e (h .left ∙ sets-eq text o at (omega (arith, h .next)) ∙ append-assoc (take at o) text (drop (at + length text) o)) }
 
-pub writes-none : (room : ℕ) (o : List ℕ) (at : ℕ) (text : List ℕ) → leb (at + room) (length o) ≡ false → Writes room o at text o Full
-writes-none room o at text e = record { answer = rw e; left = rw e }
+pub writes-none : (room : ℕ) {o : List ℕ} {at : ℕ} (text : List ℕ) → length o < at + room → Writes room o at text o Full
+writes-none room text f = let e = lt-leb _ _ f in record { answer = rw e; left = rw e }

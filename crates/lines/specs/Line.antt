@@ -38,10 +38,10 @@ unfoldable pub orDash : List ℕ → List ℕ
 orDash [] = 45 ∷ []
 orDash (x ∷ xs) = x ∷ xs
 
--- "slot (the call's; for a frame or open, the new or woken stream's)"
-unfoldable pub slotText : Which → List ℕ
-slotText (which.At s) = decimal (s .0)
-slotText which.None = 45 ∷ []
+-- "slot (the call's; for a frame or open, the new or woken stream's)": its number, written as a value is
+abbrev pub slotValue : Which → Value
+slotValue (which.At s) = value.Of (s .0)
+slotValue which.None = value.None
 
 -- "value (`-` at reply 1; else new id, count of bytes .., id of a Ping sent .., or GoAway code)"
 unfoldable pub valueText : Value → List ℕ
@@ -70,7 +70,7 @@ unfoldable pub lineOf : Shown → List ℕ → List ℕ → List ℕ
 lineOf s header bytes =
     field (decimal (s .number)) 32
     ++ (field (decimal (number (s .reply))) 32
-    ++ (field (slotText (s .slot)) 32
+    ++ (field (valueText (slotValue (s .slot))) 32
     ++ (field (valueText (s .value)) 32
     ++ (field (orDash (hex header)) 32
     ++ (field (wakesText (s .wakes)) 32

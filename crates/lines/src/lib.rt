@@ -1,11 +1,10 @@
 // The line writer: an outcome's line, and the last lines, into lent room.
 ghost use mathlib.Core.Path.{_≡_};
 ghost use mathlib.Core.List.{List, [], _∷_, _++_};
-ghost use Prim.Native.Nat.{_+_, _*_, _≤_, _<_};
-ghost use lib.Dec.{leb};
+ghost use Prim.Native.Nat.{_+_, _-_, _*_, _≤_, _<_};
 ghost use lib.ListN.{length};
 ghost use Rattle.rules.specs.Replies.{number};
-ghost use Rattle.lines.specs.Line.{decimal, hexDigit, hex, orDash, slotText, valueText, mark, marks, wakesText, field, lineOf, endLine, badLine, configLine};
+ghost use Rattle.lines.specs.Line.{decimal, hexDigit, hex, orDash, slotValue, valueText, mark, marks, wakesText, field, lineOf, endLine, badLine, configLine};
 ghost use Rattle.lines.specs.Writing.{Stores, Room, Writes, lineRoom, lastRoom};
 use rules::Reply;
 use rules::Value;
@@ -126,14 +125,13 @@ fn put_number(out: &mut [u8], at: usize, n: u64, end: u8) -> usize
     p + 1
 }
 
-fn put_slot(out: &mut [u8], at: usize, slot: Which) -> usize
-    requires { ⌜ at + 21 ≤ length (now out) ⌝ }
-    ensures { λ r. ⌜ Stores (now (out .entry)) at (field (slotText slot) 32) (now (out .exit)) r ⌝ }
-    ensures { λ r. ⌜ r ≤ at + 21 ⌝ }
+// The number of a slot.
+fn slot_value(slot: Which) -> Value
+    ensures { λ r. ⌜ r ≡ slotValue slot ⌝ }
 {
     match slot {
-        Which::At(s) => put_number(out, at, wide(s.0), SPACE),
-        Which::None => put_dash(out, at, SPACE),
+        Which::At(s) => Value::Of(s.0),
+        Which::None => Value::None,
     }
 }
 
@@ -206,40 +204,31 @@ fn put_fields(out: &mut [u8], at: usize, shown: Shown, header: &[u8], bytes: &[u
     ensures { λ r. ⌜ r ≤ at + lineRoom (length (now (header .entry))) (length (now (bytes .entry))) ⌝ }
 {
     let reply = shown.reply;
-    let slot = shown.slot;
+    let which = shown.slot;
     let value = shown.value;
     let wakes = shown.wakes;
+    let slot = slot_value(which);
     let number = put_number(out, at, shown.number, SPACE);
     let replied = put_number(out, number, wide(reply.number()), SPACE);
-    let slotted = put_slot(out, replied, slot);
+    let slotted = put_value(out, replied, slot);
     let valued = put_value(out, slotted, value);
     let headed = put_bytes(out, valued, header, SPACE);
     let woken = put_wakes(out, headed, wakes);
     put_bytes(out, woken, bytes, NEWLINE)
 }
 
-// Whether as much room is left from a place on.
-fn has_room(size: usize, at: usize, room: usize) -> bool
-    ensures { λ r. ⌜ r ≡ leb (at + room) size ⌝ }
+// The room from a place on.
+fn room_left(size: usize, at: usize) -> usize
+    ensures { λ r. ⌜ r ≡ size - at ⌝ }
 {
-    if size < at {
-        return false;
-    }
-    if size - at < room {
-        return false;
-    }
-    true
+    if at < size { size - at } else { 0 }
 }
 
 // The line of an event. It asks for the room of the longest line with as many bytes.
 pub fn line(out: &mut [u8], at: usize, shown: Shown, header: &[u8], bytes: &[u8]) -> Put
     ensures { λ r. ⌜ Writes (lineRoom (length (now (header .entry))) (length (now (bytes .entry)))) (now (out .entry)) at (lineOf shown (now (header .entry)) (now (bytes .entry))) (now (out .exit)) r ⌝ }
 {
-    let size = out.len();
-    if size < at {
-        return Put::Full;
-    }
-    let left = size - at;
+    let left = room_left(out.len(), at);
     if left < ROOM {
         return Put::Full;
     }
@@ -257,33 +246,33 @@ pub fn line(out: &mut [u8], at: usize, shown: Shown, header: &[u8], bytes: &[u8]
 pub fn end_line(out: &mut [u8], at: usize, events: u64, growth: u64) -> Put
     ensures { λ r. ⌜ Writes lastRoom (now (out .entry)) at (endLine events growth) (now (out .exit)) r ⌝ }
 {
-    if has_room(out.len(), at, ROOM) {
-        let said = put_four(out, at, 101, 110, 100, SPACE);
-        let applied = put_number(out, said, events, SPACE);
-        return Put::At(put_number(out, applied, growth, NEWLINE));
+    if room_left(out.len(), at) < ROOM {
+        return Put::Full;
     }
-    Put::Full
+    let said = put_four(out, at, 101, 110, 100, SPACE);
+    let applied = put_number(out, said, events, SPACE);
+    Put::At(put_number(out, applied, growth, NEWLINE))
 }
 
 // The last line of an unreadable trace: the events applied.
 pub fn bad_line(out: &mut [u8], at: usize, events: u64) -> Put
     ensures { λ r. ⌜ Writes lastRoom (now (out .entry)) at (badLine events) (now (out .exit)) r ⌝ }
 {
-    if has_room(out.len(), at, ROOM) {
-        let said = put_four(out, at, 98, 97, 100, SPACE);
-        return Put::At(put_number(out, said, events, NEWLINE));
+    if room_left(out.len(), at) < ROOM {
+        return Put::Full;
     }
-    Put::Full
+    let said = put_four(out, at, 98, 97, 100, SPACE);
+    Put::At(put_number(out, said, events, NEWLINE))
 }
 
 // The only line where the settings are refused.
 pub fn config_line(out: &mut [u8], at: usize) -> Put
     ensures { λ r. ⌜ Writes lastRoom (now (out .entry)) at configLine (now (out .exit)) r ⌝ }
 {
-    if has_room(out.len(), at, ROOM) {
-        let half = put_four(out, at, 99, 111, 110, 102);
-        let most = put_four(out, half, 105, 103, SPACE, 49);
-        return Put::At(put_two(out, most, 52, NEWLINE));
+    if room_left(out.len(), at) < ROOM {
+        return Put::Full;
     }
-    Put::Full
+    let half = put_four(out, at, 99, 111, 110, 102);
+    let most = put_four(out, half, 105, 103, SPACE, 49);
+    Put::At(put_two(out, most, 52, NEWLINE))
 }

@@ -1,6 +1,5 @@
 -- `lines::line` meets its contract. Assumes nothing.
 use Prim.Native.Nat.{_+_, _≤_, _<_}
-use borrow.Author.Tests.{le-leb, lt-leb}
 use Rattle.lines.specs.Writing.{lineRoom}
 use Rattle.lines.proofs.Stored.{writes, writes-none}
 use borrow.Author.Needs.{needs}
@@ -9,36 +8,32 @@ use lib.ListN.{length}
 use Rattle.lines.proofs.line.Statement.{statement}
 use Rattle.lines.proofs.line.Tie as tie
 
+room-left-requires : tie.Need-room-left-requires
+room-left-requires c κs = search needs
+
 returns : tie.Need-returns
 returns c =
-    let a = c .before .before .before .before .args in
-    let room = lineRoom (length (a .header .now)) (length (a .bytes .now)) in
-    let h : length (a .out .now) < a .at + room = omega arith in
-    writes-none room _ _ _ (lt-leb _ _ h)
-
-returns-2 : tie.Need-returns-2
-returns-2 c =
     let a = c .before .before .before .before .before .args in
     let room = lineRoom (length (a .header .now)) (length (a .bytes .now)) in
     let h : length (a .out .now) < a .at + room = omega arith in
-    writes-none room _ _ _ (lt-leb _ _ h)
+    writes-none room _ h
 
-returns-3 : tie.Need-returns-3
-returns-3 c =
+returns-2 : tie.Need-returns-2
+returns-2 c =
     let a = c .before .before .before .before .before .before .args in
     let room = lineRoom (length (a .header .now)) (length (a .bytes .now)) in
     let h : length (a .out .now) < a .at + room = omega arith in
-    writes-none room _ _ _ (lt-leb _ _ h)
+    writes-none room _ h
 
-sub-if4 : tie.Need-sub-if4
-sub-if4 c = search needs
+sub-if3 : tie.Need-sub-if3
+sub-if3 c = search needs
 
-returns-4 : tie.Need-returns-4
-returns-4 c =
+returns-3 : tie.Need-returns-3
+returns-3 c =
     let a = c .before .before .before .before .before .before .before .args in
     let room = lineRoom (length (a .header .now)) (length (a .bytes .now)) in
     let h : length (a .out .now) < a .at + room = omega arith in
-    writes-none room _ _ _ (lt-leb _ _ h)
+    writes-none room _ h
 
 put-fields-requires : tie.Need-put-fields-requires
 put-fields-requires c κs = search needs
@@ -46,22 +41,22 @@ put-fields-requires c κs = search needs
 same-length : tie.Need-same-length
 same-length c = search needs
 
-returns-5 : tie.Need-returns-5
-returns-5 c =
+returns-4 : tie.Need-returns-4
+returns-4 c =
     let a = c .before .before .before .before .before .before .before .before .before .before .before .args in
     let room = lineRoom (length (a .header .now)) (length (a .bytes .now)) in
     let h : a .at + room ≤ length (a .out .now) = omega arith in
-    writes room (le-leb _ _ h) (c .before .before .put-fields .ensures .1) (c .before .before .put-fields .ensures .0)
+    writes room h (c .before .before .put-fields .ensures .1) (c .before .before .put-fields .ensures .0)
 
 pub line-spec : {M : Type 1} → statement M
 line-spec =
     tie.close
     (tie.spec
+    room-left-requires
     returns
     returns-2
+    sub-if3
     returns-3
-    sub-if4
-    returns-4
     put-fields-requires
     same-length
-    returns-5)
+    returns-4)

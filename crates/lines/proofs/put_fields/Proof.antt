@@ -6,6 +6,9 @@ use native.Mathlib.Omega.{arith}
 use Rattle.lines.proofs.put_fields.Statement.{statement}
 use Rattle.lines.proofs.put_fields.Tie as tie
 
+slot-value-requires : tie.Need-slot-value-requires
+slot-value-requires c κs = search needs
+
 put-number-requires : tie.Need-put-number-requires
 put-number-requires c κs = search needs
 
@@ -18,11 +21,11 @@ wide-requires c κs = search needs
 put-number-requires-2 : tie.Need-put-number-requires-2
 put-number-requires-2 c κs = search needs
 
-put-slot-requires : tie.Need-put-slot-requires
-put-slot-requires c κs = search needs
-
 put-value-requires : tie.Need-put-value-requires
 put-value-requires c κs = search needs
+
+put-value-requires-2 : tie.Need-put-value-requires-2
+put-value-requires-2 c κs = search needs
 
 put-bytes-requires : tie.Need-put-bytes-requires
 put-bytes-requires c κs = search needs
@@ -31,7 +34,7 @@ put-wakes-requires : tie.Need-put-wakes-requires
 put-wakes-requires c κs = search needs
 
 put-bytes-requires-2 : tie.Need-put-bytes-requires-2
-put-bytes-requires-2 c κs = omega (arith, c .before .before .before .before .before .before .before .before .before .before .before .before .before .before .before .before .before .before .before .before .before .before .before .before .before .before .before .before .before .before .before .pre, c .before .before .before .before .before .before .before .before .before .before .before .before .before .before .before .before .before .before .before .before .before .before .before .before .before .put-number .ensures, c .before .before .before .before .before .before .before .before .before .before .before .before .before .before .before .before .before .before .before .put-number2 .ensures, c .before .before .before .before .before .before .before .before .before .before .before .before .before .before .before .put-slot .ensures, c .before .before .before .before .before .before .before .before .before .before .before .put-value .ensures, c .before .before .before .before .before .before .before .put-bytes .ensures, c .before .before .before .put-wakes .ensures)
+put-bytes-requires-2 c κs = omega (arith, c .before .before .before .before .before .before .before .before .before .before .before .before .before .before .before .before .before .before .before .before .before .before .before .before .before .before .before .before .before .before .before .before .pre, c .before .before .before .before .before .before .before .before .before .before .before .before .before .before .before .before .before .before .before .before .before .before .before .before .before .put-number .ensures, c .before .before .before .before .before .before .before .before .before .before .before .before .before .before .before .before .before .before .before .put-number2 .ensures, c .before .before .before .before .before .before .before .before .before .before .before .before .before .before .before .put-value .ensures, c .before .before .before .before .before .before .before .before .before .before .before .put-value2 .ensures, c .before .before .before .before .before .before .before .put-bytes .ensures, c .before .before .before .put-wakes .ensures)
 
 same-length : tie.Need-same-length
 same-length c = search needs
@@ -39,26 +42,28 @@ same-length c = search needs
 returns : tie.Need-returns
 unfolding lineOf
 returns c =
-    let replied = rw (c .before .before .before .before .before .before .before .before .before .before .before .before .before .before .before .before .before .before .before .before .before .before .before .wide .ensures, c .before .before .before .before .before .before .before .before .before .before .before .before .before .before .before .before .before .before .before .before .before .before .before .before .number .ensures) at (c .before .before .before .before .before .before .before .before .before .before .before .before .before .before .before .before .before .before .before .before .before .before .put-number2 .ensures .0) in (
+    let replied = rw (c .before .before .before .before .before .before .before .before .before .before .before .before .before .before .before .before .before .before .before .before .before .before .before .wide .ensures, c .before .before .before .before .before .before .before .before .before .before .before .before .before .before .before .before .before .before .before .before .before .before .before .before .number .ensures) at (c .before .before .before .before .before .before .before .before .before .before .before .before .before .before .before .before .before .before .before .before .before .before .put-number2 .ensures .0) in
+    let slotted = rw (c .before .before .before .before .before .before .before .before .before .before .before .before .before .before .before .before .before .before .before .before .before .before .before .before .before .before .before .before .before .before .slot-value .ensures) at (c .before .before .before .before .before .before .before .before .before .before .before .before .before .before .before .before .before .before .put-value .ensures .0) in (
       stores-then (c .before .before .before .before .before .before .before .before .before .before .before .before .before .before .before .before .before .before .before .before .before .before .before .before .before .before .before .before .put-number .ensures .0)
           (stores-then replied
-          (stores-then (c .before .before .before .before .before .before .before .before .before .before .before .before .before .before .before .before .before .before .put-slot .ensures .0)
-          (stores-then (c .before .before .before .before .before .before .before .before .before .before .before .before .before .before .put-value .ensures .0)
+          (stores-then slotted
+          (stores-then (c .before .before .before .before .before .before .before .before .before .before .before .before .before .before .put-value2 .ensures .0)
           (stores-then (c .before .before .before .before .before .before .before .before .before .before .put-bytes .ensures .0)
           (stores-then (c .before .before .before .before .before .before .put-wakes .ensures .0) (c .before .before .put-bytes2 .ensures .0)))))),
-      omega (arith, c .before .before .before .before .before .before .before .before .before .before .before .before .before .before .before .before .before .before .before .before .before .before .before .before .before .before .before .before .put-number .ensures, c .before .before .before .before .before .before .before .before .before .before .before .before .before .before .before .before .before .before .before .before .before .before .put-number2 .ensures, c .before .before .before .before .before .before .before .before .before .before .before .before .before .before .before .before .before .before .put-slot .ensures, c .before .before .before .before .before .before .before .before .before .before .before .before .before .before .put-value .ensures, c .before .before .before .before .before .before .before .before .before .before .put-bytes .ensures, c .before .before .before .before .before .before .put-wakes .ensures, c .before .before .put-bytes2 .ensures),
+      omega (arith, c .before .before .before .before .before .before .before .before .before .before .before .before .before .before .before .before .before .before .before .before .before .before .before .before .before .before .before .before .put-number .ensures, c .before .before .before .before .before .before .before .before .before .before .before .before .before .before .before .before .before .before .before .before .before .before .put-number2 .ensures, c .before .before .before .before .before .before .before .before .before .before .before .before .before .before .before .before .before .before .put-value .ensures, c .before .before .before .before .before .before .before .before .before .before .before .before .before .before .put-value2 .ensures, c .before .before .before .before .before .before .before .before .before .before .put-bytes .ensures, c .before .before .before .before .before .before .put-wakes .ensures, c .before .before .put-bytes2 .ensures),
     )
 
 pub put-fields-spec : {M : Type 1} → statement M
 put-fields-spec =
     tie.close
     (tie.spec
+    slot-value-requires
     put-number-requires
     number-requires
     wide-requires
     put-number-requires-2
-    put-slot-requires
     put-value-requires
+    put-value-requires-2
     put-bytes-requires
     put-wakes-requires
     put-bytes-requires-2
