@@ -4,7 +4,7 @@ use mathlib.Core.List.{List, [], _∷_}
 use Prim.Native.Nat.{ℕ}
 use Rattle.rules.specs.Step as rules
 use Rattle.events.specs.Numbers.{groups, numberAt}
-use Rattle.events.specs.Format.{frameAt, readAt, bytesAt, writeAt, closeAt, dropAt, restAt, timeAt, eventAt}
+use Rattle.events.specs.Format.{frameAt, bytesAt, countAt, slotAt, restAt, timeAt, eventAt}
 use Rattle.events.specs.Calls.{Found, call, short, bad, callAt}
 use Rattle.events.specs.declared.Number.the-variants.{Value, Short, Bad}
 
@@ -40,30 +40,30 @@ eleven-groups = refl
 
 -- `01000000000400000001000000026f6b`
 pub data-frame : callAt (1 ∷ 0 ∷ 0 ∷ 0 ∷ 0 ∷ 4 ∷ 0 ∷ 0 ∷ 0 ∷ 1 ∷ 0 ∷ 0 ∷ 0 ∷ 2 ∷ 111 ∷ 107 ∷ []) 0 ≡ call (rules.frame 0 (0 ∷ 0 ∷ 0 ∷ 4 ∷ 0 ∷ 0 ∷ 0 ∷ 1 ∷ 0 ∷ 0 ∷ 0 ∷ 2 ∷ []) (111 ∷ 107 ∷ [])) 16
-unfolding callAt eventAt timeAt restAt frameAt readAt writeAt bytesAt closeAt dropAt numberAt groups
+unfolding callAt eventAt timeAt restAt frameAt slotAt countAt bytesAt numberAt groups
 data-frame = refl
 
 -- `0400000464757374`
 pub write-four : callAt (4 ∷ 0 ∷ 0 ∷ 4 ∷ 100 ∷ 117 ∷ 115 ∷ 116 ∷ []) 0 ≡ call (rules.write 0 0 (100 ∷ 117 ∷ 115 ∷ 116 ∷ [])) 8
-unfolding callAt eventAt timeAt restAt frameAt readAt writeAt bytesAt closeAt dropAt numberAt groups
+unfolding callAt eventAt timeAt restAt frameAt slotAt countAt bytesAt numberAt groups
 write-four = refl
 
 -- a kind above 7, before its time is there
 pub kind-eight : callAt (8 ∷ []) 0 ≡ bad
-unfolding callAt eventAt timeAt restAt frameAt readAt writeAt bytesAt closeAt dropAt numberAt groups
+unfolding callAt eventAt timeAt restAt frameAt slotAt countAt bytesAt numberAt groups
 kind-eight = refl
 
 -- a count of 16,385, before its bytes are there
 pub count-above : callAt (4 ∷ 0 ∷ 0 ∷ 129 ∷ 128 ∷ 1 ∷ []) 0 ≡ bad
-unfolding callAt eventAt timeAt restAt frameAt readAt writeAt bytesAt closeAt dropAt numberAt groups
+unfolding callAt eventAt timeAt restAt frameAt slotAt countAt bytesAt numberAt groups
 count-above = refl
 
 -- a count of 16,384, whose bytes are not there
 pub count-most : callAt (4 ∷ 0 ∷ 0 ∷ 128 ∷ 128 ∷ 1 ∷ []) 0 ≡ short
-unfolding callAt eventAt timeAt restAt frameAt readAt writeAt bytesAt closeAt dropAt numberAt groups
+unfolding callAt eventAt timeAt restAt frameAt slotAt countAt bytesAt numberAt groups
 count-most = refl
 
 -- a body of 16,385 under version 9
 pub body-above : callAt (1 ∷ 0 ∷ 9 ∷ 0 ∷ 0 ∷ 0 ∷ 0 ∷ 0 ∷ 0 ∷ 1 ∷ 0 ∷ 0 ∷ 64 ∷ 1 ∷ []) 0 ≡ bad
-unfolding callAt eventAt timeAt restAt frameAt readAt writeAt bytesAt closeAt dropAt numberAt groups
+unfolding callAt eventAt timeAt restAt frameAt slotAt countAt bytesAt numberAt groups
 body-above = refl

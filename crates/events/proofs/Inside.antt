@@ -9,7 +9,7 @@ use lib.ListN.{length, getD}
 use lib.Dec.{eqb, ltb, leb}
 use borrow.Author.Tests.{ltb-true, ltb-false, leb-true, leb-false}
 use Rattle.events.specs.Numbers.{groups, numberAt}
-use Rattle.events.specs.Format.{after, whole, bounded, lengthAt, frameAt, readAt, bytesAt, writeAt, closeAt, dropAt, restAt, timeAt, eventAt}
+use Rattle.events.specs.Format.{after, whole, bounded, lengthAt, frameAt, bytesAt, countAt, slotAt, restAt, timeAt, eventAt}
 use Rattle.events.specs.Calls.{longest, Spans, Within, Inside}
 use Rattle.events.specs.declared.Number.{Number}
 use Rattle.events.specs.declared.Number.the-variants as number
@@ -86,35 +86,24 @@ module _ (s : List ℕ) (low top : ℕ) where
         (bounded-in (lengthAt s p) _ (λ g. whole-in (p + 12 + lengthAt s p) _ (omega arith) (λ i. ((omega arith, omega arith, omega arith), refl, omega arith, omega arith))))
         ((omega arith, omega arith, omega arith), refl, omega arith, omega arith))
 
-    here : (q : ℕ) → p < q → q ≤ length s → q ≤ p + 10 → Spans s low top q
-    here q h i j = omega arith
-
-    read-in : Within s low top (readAt s time p)
-    unfolding readAt
-    read-in =
-        after-in p (λ slot q. after (numberAt s q) (λ count r. bounded count (event.Read time slot count r))) (omega arith) (omega arith)
-        (λ slot q h i j. after-in q (λ count r. bounded count (event.Read time slot count r)) (omega arith) (omega arith)
-        (λ count r h′ i′ j′. bounded-in count (event.Read time slot count r) (λ b. ((omega arith, omega arith, omega arith), b))))
-
-    bytes-in : (slot count r : ℕ) → p < r → r ≤ length s → r ≤ p + 20 → Within s low top (bytesAt s time slot count r)
+    bytes-in : (slot count q : ℕ) → p < q → q ≤ p + 20 → count ≤ 16384 → Within s low top (bytesAt s time slot count q)
     unfolding bytesAt
-    bytes-in slot count r h i j =
-        bounded-in count _ (λ b. whole-in (r + count) (event.Write time slot r (r + count)) (omega arith) (λ e. ((omega arith, omega arith, omega arith), omega arith, omega arith)))
+    bytes-in slot count q h i b =
+        whole-in (q + count) (event.Write time slot q (q + count)) (omega arith) (λ e. ((omega arith, omega arith, omega arith), omega arith, omega arith))
 
-    write-in : Within s low top (writeAt s time p)
-    unfolding writeAt
-    write-in =
-        after-in p (λ slot q. after (numberAt s q) (λ count r. bytesAt s time slot count r)) (omega arith) (omega arith)
-        (λ slot q h i j. after-in q (λ count r. bytesAt s time slot count r) (omega arith) (omega arith)
-        (λ count r h′ i′ j′. bytes-in slot count r (omega arith) i′ (omega arith)))
+    count-in : (kind slot q : ℕ) → p < q → q ≤ p + 10 → Within s low top (countAt s kind time slot q)
+    unfolding countAt
+    count-in kind slot q h i =
+        after-in q (λ count r. bounded count (cond (eqb kind 3) (event.Read time slot count r) (bytesAt s time slot count r))) (omega arith) (omega arith)
+        (λ count r h′ i′ j′. bounded-in count _
+        (λ b. choice-in (eqb kind 3) (event.Read time slot count r) _ ((omega arith, omega arith, omega arith), b) (bytes-in slot count r (omega arith) (omega arith) b)))
 
-    close-in : Within s low top (closeAt s time p)
-    unfolding closeAt
-    close-in = after-in p (λ slot q. event.Close time slot q) (omega arith) (omega arith) (λ slot q h i j. here q h i j)
-
-    drop-in : Within s low top (dropAt s time p)
-    unfolding dropAt
-    drop-in = after-in p (λ slot q. event.Drop time slot q) (omega arith) (omega arith) (λ slot q h i j. here q h i j)
+    slot-in : (kind : ℕ) → Within s low top (slotAt s kind time p)
+    unfolding slotAt
+    slot-in kind =
+        after-in p (λ slot q. cond (eqb kind 5) (event.Close time slot q) (cond (eqb kind 6) (event.Drop time slot q) (countAt s kind time slot q))) (omega arith) (omega arith)
+        (λ slot q h i j. let here : Spans s low top q = (omega arith, omega arith, omega arith) in
+        choice-in (eqb kind 5) (event.Close time slot q) _ here (choice-in (eqb kind 6) (event.Drop time slot q) _ here (count-in kind slot q h j)))
 
     rest-in : (kind : ℕ) → Within s low top (restAt s kind time p)
     unfolding restAt
@@ -122,11 +111,7 @@ module _ (s : List ℕ) (low top : ℕ) where
         let now-here : Spans s low top p = (l, f, omega arith) in
         choice-in (eqb kind 0) _ _ now-here
         (choice-in (eqb kind 1) _ _ frame-in
-        (choice-in (eqb kind 2) _ _ now-here
-        (choice-in (eqb kind 3) _ _ read-in
-        (choice-in (eqb kind 4) _ _ write-in
-        (choice-in (eqb kind 5) _ _ close-in
-        (choice-in (eqb kind 6) _ _ drop-in now-here))))))
+        (choice-in (eqb kind 2) _ _ now-here (choice-in (ltb kind 7) _ _ (slot-in kind) now-here)))
 
 -- what is read at a place lies inside the input
 pub event-in : (s : List ℕ) (at : ℕ) → Inside s at (eventAt s at)

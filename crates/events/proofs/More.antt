@@ -10,7 +10,7 @@ use lib.Seq.{take-append-le, drop-append-le}
 use lib.Dec.{eqb, ltb, leb}
 use borrow.Author.Tests.{lt-ltb, le-leb, ltb-true, leb-true}
 use Rattle.events.specs.Numbers.{groups, numberAt}
-use Rattle.events.specs.Format.{after, whole, lengthAt, frameAt, readAt, bytesAt, writeAt, closeAt, dropAt, restAt, timeAt, eventAt}
+use Rattle.events.specs.Format.{after, whole, lengthAt, frameAt, bytesAt, countAt, slotAt, restAt, timeAt, eventAt}
 use Rattle.events.specs.Calls.{call, short, part, foundIn, callAt, Inside}
 use Rattle.events.proofs.Inside.{event-in}
 use Rattle.events.specs.declared.Number.{Number}
@@ -80,35 +80,26 @@ module _ (s m : List ℕ) where
       (choice-settles event.Short (ltb 16384 (lengthAt s p)) (inr refl) (whole-more (p + 12 + lengthAt s p) _ _ (λ i. inr refl)))
       (inr refl)))
 
-  read-more : (time p : ℕ) → Settles event.Short (readAt s time p) (readAt (s ++ m) time p)
-  unfolding readAt
-  read-more time p = after-more _ _ _ _ (number-more p) (λ slot q. after-more _ _ _ _ (number-more q) (λ count r. inr refl))
-
-  write-more : (time p : ℕ) → Settles event.Short (writeAt s time p) (writeAt (s ++ m) time p)
-  unfolding writeAt bytesAt
-  write-more time p =
+  count-more : (kind time slot p : ℕ) → Settles event.Short (countAt s kind time slot p) (countAt (s ++ m) kind time slot p)
+  unfolding countAt bytesAt
+  count-more kind time slot p =
       after-more _ _ _ _ (number-more p)
-      (λ slot q. after-more _ _ _ _ (number-more q)
-      (λ count r. choice-settles event.Short (ltb 16384 count) (inr refl) (whole-more (r + count) _ _ (λ i. inr refl))))
+      (λ count q. choice-settles event.Short (ltb 16384 count) (inr refl)
+      (choice-settles event.Short (eqb kind 3) (inr refl) (whole-more (q + count) _ _ (λ i. inr refl))))
 
-  close-more : (time p : ℕ) → Settles event.Short (closeAt s time p) (closeAt (s ++ m) time p)
-  unfolding closeAt
-  close-more time p = after-more _ _ _ _ (number-more p) (λ slot q. inr refl)
-
-  drop-more : (time p : ℕ) → Settles event.Short (dropAt s time p) (dropAt (s ++ m) time p)
-  unfolding dropAt
-  drop-more time p = after-more _ _ _ _ (number-more p) (λ slot q. inr refl)
+  slot-more : (kind time p : ℕ) → Settles event.Short (slotAt s kind time p) (slotAt (s ++ m) kind time p)
+  unfolding slotAt
+  slot-more kind time p =
+      after-more _ _ _ _ (number-more p)
+      (λ slot q. choice-settles event.Short (eqb kind 5) (inr refl)
+      (choice-settles event.Short (eqb kind 6) (inr refl) (count-more kind time slot q)))
 
   rest-more : (kind time p : ℕ) → Settles event.Short (restAt s kind time p) (restAt (s ++ m) kind time p)
   unfolding restAt
   rest-more kind time p =
       choice-settles event.Short (eqb kind 0) (inr refl)
       (choice-settles event.Short (eqb kind 1) (frame-more time p)
-      (choice-settles event.Short (eqb kind 2) (inr refl)
-      (choice-settles event.Short (eqb kind 3) (read-more time p)
-      (choice-settles event.Short (eqb kind 4) (write-more time p)
-      (choice-settles event.Short (eqb kind 5) (close-more time p)
-      (choice-settles event.Short (eqb kind 6) (drop-more time p) (inr refl)))))))
+      (choice-settles event.Short (eqb kind 2) (inr refl) (choice-settles event.Short (ltb kind 7) (slot-more kind time p) (inr refl))))
 
   -- an event that is read, or unreadable, stays so whatever comes after
   pub event-more : (at : ℕ) → Settles event.Short (eventAt s at) (eventAt (s ++ m) at)

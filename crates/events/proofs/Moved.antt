@@ -11,7 +11,7 @@ use lib.Seq.{getD-drop, drop-drop}
 use lib.Dec.{eqb, ltb, leb}
 use borrow.Author.Tests.{lt-ltb, le-ltb, le-leb, lt-leb, ltb-true, ltb-false, leb-true, leb-false}
 use Rattle.events.specs.Numbers.{groups, numberAt}
-use Rattle.events.specs.Format.{after, whole, bounded, lengthAt, frameAt, readAt, bytesAt, writeAt, closeAt, dropAt, restAt, timeAt, eventAt}
+use Rattle.events.specs.Format.{after, whole, bounded, lengthAt, frameAt, bytesAt, countAt, slotAt, restAt, timeAt, eventAt}
 use Rattle.events.specs.Calls.{call, part, foundIn, callAt, later}
 use Rattle.events.specs.declared.Number.{Number}
 use Rattle.events.specs.declared.Number.the-variants as number
@@ -92,48 +92,34 @@ module _ (s : List ℕ) (k : ℕ) (fits : k ≤ length s) where
       (choice-later k (ltb 16384 n) event.Bad (whole (drop k s) (p + 12 + n) (event.Frame time p (p + 12) (p + 12 + n))) refl (whole-later (p + 12 + n) (event.Frame time p (p + 12) (p + 12 + n)) _ refl))
       refl))
 
-  read-later : (time p : ℕ) → readAt s time (k + p) ≡ event-later k (readAt (drop k s) time p)
-  unfolding readAt
-  read-later time p =
-      after-later (numberAt (drop k s) p) _
-      (λ slot q. after (numberAt (drop k s) q) (λ count r. bounded count (event.Read time slot count r))) _
-      (number-later-at p)
-      (λ slot q. after-later (numberAt (drop k s) q) _ (λ count r. bounded count (event.Read time slot count r)) _ (number-later-at q)
-      (λ count r. choice-later k (ltb 16384 count) event.Bad (event.Read time slot count r) refl refl))
-
   bytes-later : (time slot count p : ℕ) → bytesAt s time slot count (k + p) ≡ event-later k (bytesAt (drop k s) time slot count p)
   unfolding bytesAt
-  bytes-later time slot count p =
-      rw (add-assoc k p count)
-      (choice-later k (ltb 16384 count) event.Bad (whole (drop k s) (p + count) (event.Write time slot p (p + count))) refl
-      (whole-later (p + count) (event.Write time slot p (p + count)) _ refl))
+  bytes-later time slot count p = rw (add-assoc k p count) (whole-later (p + count) (event.Write time slot p (p + count)) _ refl)
 
-  write-later : (time p : ℕ) → writeAt s time (k + p) ≡ event-later k (writeAt (drop k s) time p)
-  unfolding writeAt
-  write-later time p =
+  count-later : (kind time slot p : ℕ) → countAt s kind time slot (k + p) ≡ event-later k (countAt (drop k s) kind time slot p)
+  unfolding countAt
+  count-later kind time slot p =
       after-later (numberAt (drop k s) p) _
-      (λ slot q. after (numberAt (drop k s) q) (λ count r. bytesAt (drop k s) time slot count r)) _
+      (λ count q. bounded count (cond (eqb kind 3) (event.Read time slot count q) (bytesAt (drop k s) time slot count q))) _
       (number-later-at p)
-      (λ slot q. after-later (numberAt (drop k s) q) _ (λ count r. bytesAt (drop k s) time slot count r) _ (number-later-at q) (λ count r. bytes-later time slot count r))
+      (λ count q. choice-later k (ltb 16384 count) event.Bad (cond (eqb kind 3) (event.Read time slot count q) (bytesAt (drop k s) time slot count q)) refl
+      (choice-later k (eqb kind 3) (event.Read time slot count q) _ refl (bytes-later time slot count q)))
 
-  close-later : (time p : ℕ) → closeAt s time (k + p) ≡ event-later k (closeAt (drop k s) time p)
-  unfolding closeAt
-  close-later time p = after-later (numberAt (drop k s) p) _ (λ slot q. event.Close time slot q) _ (number-later-at p) (λ slot q. refl)
-
-  drop-later : (time p : ℕ) → dropAt s time (k + p) ≡ event-later k (dropAt (drop k s) time p)
-  unfolding dropAt
-  drop-later time p = after-later (numberAt (drop k s) p) _ (λ slot q. event.Drop time slot q) _ (number-later-at p) (λ slot q. refl)
+  slot-later : (kind time p : ℕ) → slotAt s kind time (k + p) ≡ event-later k (slotAt (drop k s) kind time p)
+  unfolding slotAt
+  slot-later kind time p =
+      after-later (numberAt (drop k s) p) _
+      (λ slot q. cond (eqb kind 5) (event.Close time slot q) (cond (eqb kind 6) (event.Drop time slot q) (countAt (drop k s) kind time slot q))) _
+      (number-later-at p)
+      (λ slot q. choice-later k (eqb kind 5) (event.Close time slot q) (cond (eqb kind 6) (event.Drop time slot q) (countAt (drop k s) kind time slot q)) refl
+      (choice-later k (eqb kind 6) (event.Drop time slot q) _ refl (count-later kind time slot q)))
 
   rest-later : (kind time p : ℕ) → restAt s kind time (k + p) ≡ event-later k (restAt (drop k s) kind time p)
   unfolding restAt
   rest-later kind time p =
       choice-later k (eqb kind 0) _ _ refl
       (choice-later k (eqb kind 1) _ _ (frame-later time p)
-      (choice-later k (eqb kind 2) _ _ refl
-      (choice-later k (eqb kind 3) _ _ (read-later time p)
-      (choice-later k (eqb kind 4) _ _ (write-later time p)
-      (choice-later k (eqb kind 5) _ _ (close-later time p)
-      (choice-later k (eqb kind 6) _ _ (drop-later time p) refl))))))
+      (choice-later k (eqb kind 2) _ _ refl (choice-later k (ltb kind 7) _ _ (slot-later kind time p) refl)))
 
   pub event-later-at : (at : ℕ) → eventAt s (k + at) ≡ event-later k (eventAt (drop k s) at)
   unfolding eventAt timeAt

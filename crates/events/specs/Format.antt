@@ -88,40 +88,28 @@ frameAt s now p =
     (whole s (p + 12 + lengthAt s p) (event.Frame now p (p + 12) (p + 12 + lengthAt s p))))
     (event.Frame now p (p + 12) (p + 12)))
 
--- "3 read slot, count (<= 16,384)"
-unfoldable pub readAt : List ℕ → ℕ → ℕ → Event
-readAt s now p =
-    after (numberAt s p)
-    (λ slot q. after (numberAt s q) (λ count r. bounded count (event.Read now slot count r)))
-
 -- "bytes", as many as the count says
 unfoldable pub bytesAt : List ℕ → ℕ → ℕ → ℕ → ℕ → Event
-bytesAt s now slot count p = bounded count (whole s (p + count) (event.Write now slot p (p + count)))
+bytesAt s now slot count p = whole s (p + count) (event.Write now slot p (p + count))
 
--- "4 write slot, count (<= 16,384), bytes"
-unfoldable pub writeAt : List ℕ → ℕ → ℕ → Event
-writeAt s now p =
+-- "3 read slot, count (<= 16,384)"; "4 write slot, count (<= 16,384), bytes", after the slot
+unfoldable pub countAt : List ℕ → ℕ → ℕ → ℕ → ℕ → Event
+countAt s kind now slot p =
     after (numberAt s p)
-    (λ slot q. after (numberAt s q) (λ count r. bytesAt s now slot count r))
+    (λ count q. bounded count (cond (eqb kind 3) (event.Read now slot count q) (bytesAt s now slot count q)))
 
--- "5 close slot"
-unfoldable pub closeAt : List ℕ → ℕ → ℕ → Event
-closeAt s now p = after (numberAt s p) (λ slot q. event.Close now slot q)
-
--- "6 drop slot"
-unfoldable pub dropAt : List ℕ → ℕ → ℕ → Event
-dropAt s now p = after (numberAt s p) (λ slot q. event.Drop now slot q)
+-- "3 read slot ..; 4 write slot ..; 5 close slot; 6 drop slot"
+unfoldable pub slotAt : List ℕ → ℕ → ℕ → ℕ → Event
+slotAt s kind now p =
+    after (numberAt s p)
+    (λ slot q. cond (eqb kind 5) (event.Close now slot q) (cond (eqb kind 6) (event.Drop now slot q) (countAt s kind now slot q)))
 
 -- "0 tick; 1 frame ..; 2 open; 3 read ..; 4 write ..; 5 close ..; 6 drop ..; 7 peer gone", after the kind and the time
 unfoldable pub restAt : List ℕ → ℕ → ℕ → ℕ → Event
 restAt s kind now p =
     cond (eqb kind 0) (event.Tick now p)
     (cond (eqb kind 1) (frameAt s now p)
-    (cond (eqb kind 2) (event.Open now p)
-    (cond (eqb kind 3) (readAt s now p)
-    (cond (eqb kind 4) (writeAt s now p)
-    (cond (eqb kind 5) (closeAt s now p)
-    (cond (eqb kind 6) (dropAt s now p) (event.Gone now p)))))))
+    (cond (eqb kind 2) (event.Open now p) (cond (ltb kind 7) (slotAt s kind now p) (event.Gone now p))))
 
 -- "a kind above 7, is unreadable", and then the time
 unfoldable pub timeAt : List ℕ → ℕ → ℕ → Event

@@ -3,7 +3,7 @@ ghost use mathlib.Core.Path.{_≡_};
 ghost use Prim.Native.Nat.{_≤_, _<_, _+_};
 ghost use lib.ListN.{length};
 ghost use Rattle.events.specs.Numbers.{numberAt};
-ghost use Rattle.events.specs.Format.{settingsAt, following, valueOf, typedWith, lengthAt, frameAt, readAt, bytesAt, writeAt, closeAt, dropAt, restAt, timeAt, eventAt};
+ghost use Rattle.events.specs.Format.{settingsAt, following, valueOf, typedWith, lengthAt, frameAt, bytesAt, countAt, slotAt, restAt, timeAt, eventAt};
 use frame::header::HEADER_SIZE;
 use rules::Settings;
 
@@ -184,41 +184,10 @@ fn frame(src: &[u8], time: u64, p: usize) -> Event
     }
 }
 
-fn read(src: &[u8], time: u64, p: usize) -> Event
-    ensures { λ r. ⌜ r ≡ readAt (now (src .entry)) time p ⌝ }
+// The bytes to write, as many as the count says.
+fn write_bytes(src: &[u8], time: u64, slot: u64, size: usize, p: usize) -> Event
+    ensures { λ r. ⌜ r ≡ bytesAt (now (src .entry)) time slot size p ⌝ }
 {
-    let first = read_number(src, p);
-    match first {
-        Number::Value(slot, q) => {
-            let second = read_number(src, q);
-            match second {
-                Number::Value(count, next) => {
-                    if LARGEST < count {
-                        return Event::Bad;
-                    }
-                    Event::Read {
-                        now: time,
-                        slot,
-                        count: count as usize,
-                        next,
-                    }
-                }
-                Number::Short => Event::Short,
-                Number::Bad => Event::Bad,
-            }
-        }
-        Number::Short => Event::Short,
-        Number::Bad => Event::Bad,
-    }
-}
-
-fn write_bytes(src: &[u8], time: u64, slot: u64, count: u64, p: usize) -> Event
-    ensures { λ r. ⌜ r ≡ bytesAt (now (src .entry)) time slot count p ⌝ }
-{
-    if LARGEST < count {
-        return Event::Bad;
-    }
-    let size = count as usize;
     if src.len() < p {
         return Event::Short;
     }
@@ -233,48 +202,50 @@ fn write_bytes(src: &[u8], time: u64, slot: u64, count: u64, p: usize) -> Event
     }
 }
 
-fn write(src: &[u8], time: u64, p: usize) -> Event
-    ensures { λ r. ⌜ r ≡ writeAt (now (src .entry)) time p ⌝ }
+// What follows the slot of a read or a write.
+fn counted(src: &[u8], kind: u64, time: u64, slot: u64, p: usize) -> Event
+    ensures { λ r. ⌜ r ≡ countAt (now (src .entry)) kind time slot p ⌝ }
 {
     let first = read_number(src, p);
     match first {
-        Number::Value(slot, q) => {
-            let second = read_number(src, q);
-            match second {
-                Number::Value(count, start) => write_bytes(src, time, slot, count, start),
-                Number::Short => Event::Short,
-                Number::Bad => Event::Bad,
+        Number::Value(count, next) => {
+            if LARGEST < count {
+                return Event::Bad;
             }
+            let size = count as usize;
+            if kind == 3 {
+                return Event::Read {
+                    now: time,
+                    slot,
+                    count: size,
+                    next,
+                };
+            }
+            write_bytes(src, time, slot, size, next)
         }
         Number::Short => Event::Short,
         Number::Bad => Event::Bad,
     }
 }
 
-fn close(src: &[u8], time: u64, p: usize) -> Event
-    ensures { λ r. ⌜ r ≡ closeAt (now (src .entry)) time p ⌝ }
+// What follows the time of a call on a slot.
+fn on_slot(src: &[u8], kind: u64, time: u64, p: usize) -> Event
+    ensures { λ r. ⌜ r ≡ slotAt (now (src .entry)) kind time p ⌝ }
 {
     let first = read_number(src, p);
     match first {
-        Number::Value(slot, next) => Event::Close {
-            now: time,
-            slot,
-            next,
-        },
-        Number::Short => Event::Short,
-        Number::Bad => Event::Bad,
-    }
-}
-
-fn drop(src: &[u8], time: u64, p: usize) -> Event
-    ensures { λ r. ⌜ r ≡ dropAt (now (src .entry)) time p ⌝ }
-{
-    let first = read_number(src, p);
-    match first {
-        Number::Value(slot, next) => Event::Drop {
-            now: time,
-            slot,
-            next,
+        Number::Value(slot, next) => match kind {
+            5 => Event::Close {
+                now: time,
+                slot,
+                next,
+            },
+            6 => Event::Drop {
+                now: time,
+                slot,
+                next,
+            },
+            _ => counted(src, kind, time, slot, next),
         },
         Number::Short => Event::Short,
         Number::Bad => Event::Bad,
@@ -289,10 +260,7 @@ fn rest(src: &[u8], kind: u64, time: u64, p: usize) -> Event
         0 => Event::Tick { now: time, next: p },
         1 => frame(src, time, p),
         2 => Event::Open { now: time, next: p },
-        3 => read(src, time, p),
-        4 => write(src, time, p),
-        5 => close(src, time, p),
-        6 => drop(src, time, p),
+        3..=6 => on_slot(src, kind, time, p),
         _ => Event::Gone { now: time, next: p },
     }
 }
