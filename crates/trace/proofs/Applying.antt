@@ -112,10 +112,9 @@ module _ (c : Connection) (t l p sent : List ℕ) where
       bytes = ap (λ (k : ℕ). take k bytes′) (f .read ∙ ap length (n .none)) ∙ sym (n .none);
     }
 
-    -- the same call by another name of its slot
-    renamed : (y : Call) → step (absOf c t l p) y ≡ step (absOf c t l p) x
-        → Follows c t l p (step (absOf c t l p) y) d t′ l′ p′ → Follows c t l p (step (absOf c t l p) x) d t′ l′ p′
-    renamed y e f = subst (λ (r : Result). Follows c t l p r d t′ l′ p′) e f
+    -- a call that gives no header leaves the twelve bytes
+    headless : Headless (step (absOf c t l p) x) → Follows c t l p (step (absOf c t l p) x) d t′ l′ p′ → sent ≡ sentAfter (d .answer .sent) sent
+    headless n f = sym (ap (λ (h : Sent). sentAfter h sent) (f .says .sent ∙ n .bare))
 
   module _ (v : Valid c t l p) where
     table-right : tableSized c (length t) ≡ true
@@ -144,83 +143,75 @@ module _ (c : Connection) (t l p sent : List ℕ) where
   -- ---- each event
 
   module _ (s : List ℕ) (e : Event) (d : Done) (t′ l′ p′ sent′ bytes′ : List ℕ) where
+    -- the event's call x, which reads no bytes and is made as y: another name of its slot at most
+    made-as : (x y : Call) (next : ℕ) (right : Bool) → foundIn s e ≡ call x next
+        → (Valid c t l p → step (absOf c t l p) y ≡ step (absOf c t l p) x)
+        → (Valid c t l p → length sent ≡ 12 → right ≡ true)
+        → Silent (step (absOf c t l p) x)
+        → (Follows c t l p (step (absOf c t l p) x) d t′ l′ p′ → sent′ ≡ sentAfter (d .answer .sent) sent)
+        → Promised right c t l p y d t′ l′ p′ → Applies c t l p sent s e d t′ l′ p′ sent′ bytes′
+    made-as x y next right q same fit n h k =
+        made s e x next d t′ l′ p′ sent′ bytes′ q
+        (λ v w. let f = subst (λ (r : Result). Follows c t l p r d t′ l′ p′) (same v) (k .steps (fit v w) v) in
+        quiet x d t′ l′ p′ sent′ bytes′ f (h f) n)
+
     pub tick-applies : (now next : ℕ) → e ≡ event.Tick now next → Promised (sentSized c (length t) (length sent)) c t l p (rules.tick now) d t′ l′ p′
         → sent′ ≡ sentAfter (d .answer .sent) sent → Applies c t l p sent s e d t′ l′ p′ sent′ bytes′
     tick-applies now next q k h =
-        made s e (rules.tick now) next d t′ l′ p′ sent′ bytes′ (ap (foundIn s) q)
-        (λ v w. quiet (rules.tick now) d t′ l′ p′ sent′ bytes′ (k .steps (sent-right v w) v) h (tick-silent (absOf c t l p) now))
+        made-as (rules.tick now) _ next _ (ap (foundIn s) q) (λ v. refl) sent-right (tick-silent (absOf c t l p) now) (λ f. h) k
 
     pub frame-applies : (now head body next : ℕ) → e ≡ event.Frame now head body next → head + 12 ≡ body → body ≤ length s
         → Promised (frames.sized c (length t) (length l) (length p) (length sent) (length (part s head body))) c t l p (rules.frame now (part s head body) (part s body next)) d t′ l′ p′
         → sent′ ≡ sentAfter (d .answer .sent) sent → Applies c t l p sent s e d t′ l′ p′ sent′ bytes′
     frame-applies now head body next q a b k h =
         let n : length (part s head body) ≡ 12 = length-take-le (body - head) (drop head s) (rw length-drop (omega arith)) ∙ omega arith in
-        made s e (rules.frame now (part s head body) (part s body next)) next d t′ l′ p′ sent′ bytes′ (ap (foundIn s) q)
-        (λ v w. quiet (rules.frame now (part s head body) (part s body next)) d t′ l′ p′ sent′ bytes′ (k .steps (frame-right v w _ n) v) h (frame-silent (absOf c t l p) now _ _))
+        made-as (rules.frame now (part s head body) (part s body next)) _ next _ (ap (foundIn s) q) (λ v. refl) (λ v w. frame-right v w _ n) (frame-silent (absOf c t l p) now _ _) (λ f. h) k
 
     pub write-applies : (now slot start next : ℕ) → e ≡ event.Write now slot start next
         → Promised (sentSized c (length t) (length sent)) c t l p (rules.write now (slotOf slot) (part s start next)) d t′ l′ p′
         → sent′ ≡ sentAfter (d .answer .sent) sent → Applies c t l p sent s e d t′ l′ p′ sent′ bytes′
     unfolding step
     write-applies now slot start next q k h =
-        let x = rules.write now slot (part s start next) in
-        made s e x next d t′ l′ p′ sent′ bytes′ (ap (foundIn s) q)
-        (λ v w. quiet x d t′ l′ p′ sent′ bytes′
-        (renamed x d t′ l′ p′ sent′ bytes′ (rules.write now (slotOf slot) (part s start next))
-        (slots-same v now slot (λ i. writeRules (absOf c t l p) i (entry (absOf c t l p .slots) i) (part s start next)))
-        (k .steps (sent-right v w) v))
-        h (write-silent (absOf c t l p) now slot _))
+        made-as (rules.write now slot (part s start next)) _ next _ (ap (foundIn s) q)
+        (λ v. slots-same v now slot (λ i. writeRules (absOf c t l p) i (entry (absOf c t l p .slots) i) (part s start next)))
+        sent-right (write-silent (absOf c t l p) now slot _) (λ f. h) k
 
     pub close-applies : (now slot next : ℕ) → e ≡ event.Close now slot next
         → Promised (sentSized c (length t) (length sent)) c t l p (rules.close now (slotOf slot)) d t′ l′ p′
         → sent′ ≡ sentAfter (d .answer .sent) sent → Applies c t l p sent s e d t′ l′ p′ sent′ bytes′
     unfolding step
     close-applies now slot next q k h =
-        let x = rules.close now slot in
-        made s e x next d t′ l′ p′ sent′ bytes′ (ap (foundIn s) q)
-        (λ v w. quiet x d t′ l′ p′ sent′ bytes′
-        (renamed x d t′ l′ p′ sent′ bytes′ (rules.close now (slotOf slot))
-        (slots-same v now slot (λ i. closeRules (absOf c t l p) i (entry (absOf c t l p .slots) i)))
-        (k .steps (sent-right v w) v))
-        h (close-silent (absOf c t l p) now slot))
+        made-as (rules.close now slot) _ next _ (ap (foundIn s) q)
+        (λ v. slots-same v now slot (λ i. closeRules (absOf c t l p) i (entry (absOf c t l p .slots) i)))
+        sent-right (close-silent (absOf c t l p) now slot) (λ f. h) k
 
     pub drop-applies : (now slot next : ℕ) → e ≡ event.Drop now slot next
         → Promised (dropping.sized c (length t) (length l) (length sent)) c t l p (rules.drop now (slotOf slot)) d t′ l′ p′
         → sent′ ≡ sentAfter (d .answer .sent) sent → Applies c t l p sent s e d t′ l′ p′ sent′ bytes′
     unfolding step
     drop-applies now slot next q k h =
-        let x = rules.drop now slot in
-        made s e x next d t′ l′ p′ sent′ bytes′ (ap (foundIn s) q)
-        (λ v w. quiet x d t′ l′ p′ sent′ bytes′
-        (renamed x d t′ l′ p′ sent′ bytes′ (rules.drop now (slotOf slot))
-        (slots-same v now slot (λ i. dropRules (absOf c t l p) i (entry (absOf c t l p .slots) i)))
-        (k .steps (drop-right v w) v))
-        h (drop-silent (absOf c t l p) now slot))
+        made-as (rules.drop now slot) _ next _ (ap (foundIn s) q)
+        (λ v. slots-same v now slot (λ i. dropRules (absOf c t l p) i (entry (absOf c t l p .slots) i)))
+        drop-right (drop-silent (absOf c t l p) now slot) (λ f. h) k
 
     -- what stands for no call
     pub none-applies : NoCall (foundIn s e) → Applies c t l p sent s e d t′ l′ p′ sent′ bytes′
     none-applies n x next q v w = absurd (subst NoCall q n)
 
   module _ (s : List ℕ) (e : Event) (d : Done) (t′ l′ p′ bytes′ : List ℕ) where
-    -- a call that gives no header leaves the twelve bytes
-    headless : (x : Call) → Follows c t l p (step (absOf c t l p) x) d t′ l′ p′ → Headless (step (absOf c t l p) x) → sent ≡ sentAfter (d .answer .sent) sent
-    headless x f n = sym (ap (λ (h : Sent). sentAfter h sent) (f .says .sent ∙ n .bare))
-
     pub open-applies : (now next : ℕ) → e ≡ event.Open now next
         → Promised (fits (c .memory) (length t) (length l) (length p)) c t l p (rules.open-stream now) d t′ l′ p′ → Applies c t l p sent s e d t′ l′ p′ sent bytes′
     open-applies now next q k =
         let x = rules.open-stream now in
-        made s e x next d t′ l′ p′ sent bytes′ (ap (foundIn s) q)
-        (λ v w. let f = k .steps (sized-fits (c .memory) t l p (v .memory .sized)) v in
-        quiet x d t′ l′ p′ sent bytes′ f (headless x f (open-headless (absOf c t l p) now)) (open-silent (absOf c t l p) now))
+        made-as s e d t′ l′ p′ sent bytes′ x x next _ (ap (foundIn s) q) (λ v. refl) (λ v w. sized-fits (c .memory) t l p (v .memory .sized))
+        (open-silent (absOf c t l p) now) (headless x d t′ l′ p′ sent bytes′ (open-headless (absOf c t l p) now)) k
 
     pub gone-applies : (now next : ℕ) → e ≡ event.Gone now next
         → Promised (tableSized c (length t)) c t l p (rules.gone now) d t′ l′ p′ → Applies c t l p sent s e d t′ l′ p′ sent bytes′
     gone-applies now next q k =
         let x = rules.gone now in
-        made s e x next d t′ l′ p′ sent bytes′ (ap (foundIn s) q)
-        (λ v w. let f = k .steps (table-right v) v in
-        quiet x d t′ l′ p′ sent bytes′ f (headless x f (gone-headless (absOf c t l p) now)) (gone-silent (absOf c t l p) now))
+        made-as s e d t′ l′ p′ sent bytes′ x x next _ (ap (foundIn s) q) (λ v. refl) (λ v w. table-right v)
+        (gone-silent (absOf c t l p) now) (headless x d t′ l′ p′ sent bytes′ (gone-headless (absOf c t l p) now)) k
 
   module _ (s : List ℕ) (e : Event) (d : Done) (t′ l′ bytes out′ sent′ : List ℕ) where
     -- bytes at the start of the lent part stand at the start of the whole
