@@ -22,7 +22,7 @@ use Rattle.memory.specs.Moves as memory
 use Rattle.memory.specs.Slots.{slotsOf}
 use Rattle.memory.specs.declared.Memory.{Memory}
 use Rattle.connection.specs.Abstract.{absOf, Valid}
-use Rattle.connection.specs.Parts.{withMemory, pinged}
+use Rattle.connection.specs.Parts.{withMemory, answered, pinged}
 use Rattle.connection.specs.Promises.{gateOf, Follows}
 use Rattle.connection.specs.declared.Connection.{Connection}
 use Rattle.connection.specs.declared.Done.{Done}
@@ -69,14 +69,10 @@ module _ (c : Connection) (t l p : List ℕ) (v : Valid c t l p) where
 
 -- ---- a stream put back
 
--- the answer of a call that leaves the memory m
-abbrev pub keptDone : Connection → Memory → Answer → Done
-keptDone c m a = record { connection = withMemory c m; answer = a; read = 0 }
-
 module _ (c : Connection) (t l p : List ℕ) (v : Valid c t l p) (i : ℕ) (s : Stream) (listed : Bool) (a : Answer) (m : Memory) (t′ : List ℕ) where
   pub keep-follows : memory.Follows (entry (slotsOf (c .memory) t l p) i) s listed
       → memory.Moved (c .memory) t l p i (memory.held s listed (entry (slotsOf (c .memory) t l p) i .bytes)) m t′ l p
-      → Follows c t l p (gives (outcomeOf a) (withSlot (absOf c t l p) i (memory.held s listed (entry (slotsOf (c .memory) t l p) i .bytes)))) (keptDone c m a) t′ l p
+      → Follows c t l p (gives (outcomeOf a) (withSlot (absOf c t l p) i (memory.held s listed (entry (slotsOf (c .memory) t l p) i .bytes)))) (answered (withMemory c m) a) t′ l p
   keep-follows f moved = record {
     valid = record {
       memory = moved .valid;

@@ -92,10 +92,10 @@ decided i row b w = cond b (action.Refuse reply.WriteClosed) (writeAction (recor
 -- only a write that is done or waits gives a header
 write-gives : (c : Connection) (t : List ℕ) (i : ℕ) (row : Row) (b : Bool) (w : Written) (u : List ℕ) (d : Done) (t′ u′ : List ℕ)
     → Acts c t u row (decided i row b w) d t′ u′ → Gives d u u′
-write-gives c t i row true w u d t′ u′ k = rw (k .0) (record { header = k .2; only = λ x. (refl, refl) })
-write-gives c t i row false written.Closed u d t′ u′ k = rw (k .0) (record { header = k .2; only = λ x. (refl, refl) })
-write-gives c t i row false (written.Wait s) u d t′ u′ k = record { header = rw (k .0 .answer) (k .1); only = rw (k .0 .answer) (λ x. never x) }
-write-gives c t i row false (written.Frame s h) u d t′ u′ k = record { header = rw (k .0 .answer) (k .1); only = rw (k .0 .answer) (λ x. never x) }
+write-gives c t i row true w u d t′ u′ k = rw (k .0) (record { header = k .2; silent = λ x. (refl, refl) })
+write-gives c t i row false written.Closed u d t′ u′ k = rw (k .0) (record { header = k .2; silent = λ x. (refl, refl) })
+write-gives c t i row false (written.Wait s) u d t′ u′ k = record { header = rw (k .0 .answer) (k .1); silent = rw (k .0 .answer) (λ x. never x) }
+write-gives c t i row false (written.Frame s h) u d t′ u′ k = record { header = rw (k .0 .answer) (k .1); silent = rw (k .0 .answer) (λ x. never x) }
 
 module _ (c : Connection) (t l p : List ℕ) (i now : ℕ) (given : List ℕ) where
   abbrev a : Conn

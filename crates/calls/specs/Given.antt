@@ -5,19 +5,15 @@ use mathlib.Core.List.{List}
 use Prim.Native.Nat.{ℕ}
 use lib.Dec.{eqb}
 use Rattle.rules.specs.Step.{step, write}
-use Rattle.table.specs.Table.{size}
 use Rattle.handlers.specs.Locals.{bodyOf}
+use Rattle.memory.specs.Counts.{tableFits}
 use Rattle.connection.specs.Abstract.{absOf, Valid}
 use Rattle.connection.specs.declared.Connection.{Connection}
 use Rattle.connection.specs.declared.Done.{Done}
 
--- 01: "a lent table .. of the wrong size", where the table alone is lent
-abbrev pub tableSized : Connection → ℕ → Bool
-tableSized c n = eqb n (size (c .memory .slots))
-
--- the same, with room for a header of twelve bytes
+-- 01: "a lent table .. or header of the wrong size", where the table and twelve bytes for a header are lent
 abbrev pub sentSized : Connection → ℕ → ℕ → Bool
-sentSized c n s = cond (tableSized c n) (eqb s 12) false
+sentSized c n s = cond (tableFits (c .memory .slots) n) (eqb s 12) false
 
 -- 01: "a Data frame carries the first n bytes": from a valid state the rule's body is the first bytes of `given`, as many as the
 -- header given counts

@@ -5,9 +5,10 @@ ghost use Prim.Native.Nat.{ℕ};
 ghost use lib.ListN.{length};
 ghost use Rattle.rules.specs.Step.{gone, tick, write, close};
 ghost use Rattle.handlers.specs.Locals.{onTick};
+ghost use Rattle.memory.specs.Counts.{tableFits};
 ghost use Rattle.connection.specs.Parts.{pinged};
 ghost use Rattle.connection.specs.Promises.{Promised, Gives, sentAfter};
-ghost use Rattle.calls.specs.Given.{tableSized, sentSized, Carries};
+ghost use Rattle.calls.specs.Given.{sentSized, Carries};
 ghost use Rattle.calls.specs.Parts.{Keeps, Acts};
 use connection::Connection;
 use connection::Done;
@@ -21,20 +22,12 @@ use rules::Slot;
 use stream::Stream;
 use table::row::Row;
 
-// Whether a table of this length has its size.
-fn table_sized(c: Connection, len: usize) -> bool
-    ensures { λ r. ⌜ r ≡ tableSized c len ⌝ }
-{
-    let memory = c.memory;
-    let size = table::size(memory.slots);
-    len == size
-}
-
-// The same, with twelve bytes lent for a header.
+// Whether a table of this length has its size, with twelve bytes lent for a header.
 fn sent_sized(c: Connection, len: usize, sent_len: usize) -> bool
     ensures { λ r. ⌜ r ≡ sentSized c len «sent_len» ⌝ }
 {
-    if table_sized(c, len) {
+    let memory = c.memory;
+    if memory::table_fits(memory.slots, len) {
         return sent_len == HEADER_SIZE;
     }
     false
@@ -54,11 +47,7 @@ fn keep(
 {
     let memory = c.memory.store(table, slot, row, stream, listed);
     let connection = c.with_memory(memory);
-    Done {
-        connection,
-        answer,
-        read: 0,
-    }
+    connection::answered(connection, answer)
 }
 
 // Does what was decided of a handle's stream. No call on a handle decides more than a refusal or a store.
@@ -87,12 +76,7 @@ fn ping(c: Connection, sent: &mut [u8], time: u64) -> Done
     let answer = pong.answer;
     let header = answer.sent;
     connection::put(sent, header);
-    let connection = c.with_rtt(pong.rtt);
-    Done {
-        connection,
-        answer,
-        read: 0,
-    }
+    connection::pinged(c, pong)
 }
 
 // Writes to the handle's stream. The body of the header given is the first bytes of `given` that its length counts.
@@ -172,9 +156,10 @@ pub fn tick(c: Connection, table: &[u64], sent: &mut [u8], time: u64) -> Done
 
 // The peer is gone: the connection ends.
 pub fn peer_gone(c: Connection, table: &mut [u64], time: u64) -> Done
-    ensures { λ r. ⌜ ((l p : List ℕ) → Promised (tableSized c (length (now (table .entry)))) c (now (table .entry)) l p (gone time) r (now (table .exit)) l p) ⌝ }
+    ensures { λ r. ⌜ ((l p : List ℕ) → Promised (tableFits (c .memory .slots) (length (now (table .entry)))) c (now (table .entry)) l p (gone time) r (now (table .exit)) l p) ⌝ }
 {
-    let sized = table_sized(c, table.len());
+    let memory = c.memory;
+    let sized = memory::table_fits(memory.slots, table.len());
     if !sized {
         return connection::refuse(c, Reply::Size);
     }

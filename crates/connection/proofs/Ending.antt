@@ -11,6 +11,7 @@ use Rattle.memory.specs.Moves as memory
 use Rattle.memory.specs.declared.Memory.{Memory}
 use Rattle.memory.proofs.Laws.{never}
 use Rattle.connection.specs.Abstract.{absOf, Valid, Fresh}
+use Rattle.connection.specs.Parts.{answered}
 use Rattle.connection.specs.Promises.{bareAnswer, Follows}
 use Rattle.connection.specs.declared.Connection.{Connection}
 use Rattle.connection.specs.declared.Done.{Done}
@@ -21,11 +22,9 @@ entry-ended es i = List·getD-map endEntry es i vacant
 
 -- the answer of a call that ended the connection, its memory being m
 abbrev pub endedDone : Connection → Memory → Reply → Done
-endedDone c m r = record {
-  connection = record { config = c .config; rtt = c .rtt; ended = true; «next_id» = c .«next_id»; «open_wait» = false; growth = c .growth; memory = m };
-  answer = bareAnswer r true;
-  read = 0;
-}
+endedDone c m r =
+    answered (record { config = c .config; rtt = c .rtt; ended = true; «next_id» = c .«next_id»; «open_wait» = false; growth = c .growth; memory = m })
+    (bareAnswer r true)
 
 module _ (c : Connection) (t l p : List ℕ) (v : Valid c t l p) (m : Memory) (t′ : List ℕ) (e : memory.Ended (c .memory) t l p m t′) where
   fresh : (r : Reply) → Fresh (absOf (endedDone c m r .connection) t′ l p)

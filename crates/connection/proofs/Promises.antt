@@ -15,7 +15,7 @@ use Rattle.handlers.specs.declared.Answer.{Answer}
 use Rattle.memory.proofs.Laws.{never}
 use Rattle.memory.proofs.Starts.{nothing-advances}
 use Rattle.connection.specs.Abstract.{absOf, Valid}
-use Rattle.connection.specs.Parts.{withRtt, withOpens}
+use Rattle.connection.specs.Parts.{withRtt, withOpens, answered}
 use Rattle.connection.specs.Promises.{refused, Gives, Follows, Promised}
 use Rattle.connection.specs.declared.Connection.{Connection}
 use Rattle.connection.specs.declared.Done.{Done}
@@ -40,7 +40,7 @@ giving-leaves reply.Size h = never (sym h)
 
 -- a refusal gives no header
 pub refused-gives : (c : Connection) (r : Reply) (s : List ℕ) → Gives (refused c r) s s
-refused-gives c r s = record { header = refl; only = λ e. (refl, refl) }
+refused-gives c r s = record { header = refl; silent = λ e. (refl, refl) }
 
 module _ (c : Connection) (t l p : List ℕ) where
   pub refuse-follows : (r : Reply) → Valid c t l p → Follows c t l p (refuse (absOf c t l p) r) (refused c r) t l p
@@ -54,7 +54,7 @@ module _ (c : Connection) (t l p : List ℕ) where
 
   -- an answer that leaves memory as it was: the pings and the open wait alone may change
   pub answer-follows : (r : Rtt) (wait : Bool) (a : Answer) → Valid c t l p
-      → Follows c t l p (gives (outcomeOf a) (withOpenWait (withPings (absOf c t l p) r) wait)) (record { connection = withOpens (withRtt c r) (c .«next_id») wait; answer = a; read = 0 }) t l p
+      → Follows c t l p (gives (outcomeOf a) (withOpenWait (withPings (absOf c t l p) r) wait)) (answered (withOpens (withRtt c r) (c .«next_id») wait) a) t l p
   answer-follows r wait a v = record {
     valid = record { memory = v .memory; slots = v .slots; pool = v .pool; fresh = record { parity = v .fresh .parity; below = v .fresh .below } };
     after = refl;

@@ -7,6 +7,7 @@ use Rattle.rtt.specs.declared.Rtt.{Rtt}
 use Rattle.rules.specs.Settings.{lastTime}
 use Rattle.rules.specs.declared.Reply.the-variants as reply
 use Rattle.table.specs.Table.{rowAt}
+use Rattle.handlers.specs.declared.Answer.{Answer}
 use Rattle.handlers.specs.declared.Pong.{Pong}
 use Rattle.memory.specs.declared.Memory.{Memory}
 use Rattle.connection.specs.declared.Connection.{Connection}
@@ -59,9 +60,17 @@ withOpens c next wait = record {
   memory = c .memory;
 }
 
+-- the connection, and an answer to a call that reads no bytes
+abbrev pub answered : Connection → Answer → Done
+answered c a = record { connection = c; answer = a; read = 0 }
+
 -- the pings after a tick or a Ping frame, and what it answers
 abbrev pub pinged : Connection → Pong → Done
-pinged c q = record { connection = withRtt c (q .rtt); answer = q .answer; read = 0 }
+pinged c q = answered (withRtt c (q .rtt)) (q .answer)
+
+-- another next id, open wait and memory, and the answer
+abbrev pub settled : Connection → ℕ → Bool → Memory → Answer → Done
+settled c next wait m a = answered (withMemory (withOpens c next wait) m) a
 
 -- 01: "Others: 10, 9, then the rules"
 abbrev pub handleOf : ℕ → List ℕ → ℕ → ℕ → Handle

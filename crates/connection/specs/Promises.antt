@@ -4,7 +4,7 @@ use mathlib.Core.Bool.{Bool, true, false, cond}
 use mathlib.Core.List.{List, _++_}
 use Prim.Native.Nat.{ℕ}
 use lib.ListN.{length, drop}
-use lib.Dec.{ltb}
+use lib.Dec.{eqb, ltb}
 use Rattle.frame.specs.Wire.{written}
 use Rattle.stream.specs.declared.Sent.{Sent}
 use Rattle.stream.specs.declared.Sent.the-variants.{Frame, Nothing}
@@ -22,8 +22,10 @@ use Rattle.table.specs.declared.Found.the-variants as found
 use Rattle.handlers.specs.declared.Answer.{Answer}
 use Rattle.handlers.specs.declared.Vacancy.{Vacancy}
 use Rattle.handlers.specs.declared.Vacancy.the-variants as vacancy
+use Rattle.memory.specs.Counts.{fits}
 use Rattle.memory.specs.Moves.{Advances}
 use Rattle.connection.specs.Abstract.{absOf, Valid}
+use Rattle.connection.specs.Parts.{answered}
 use Rattle.connection.specs.declared.Connection.{Connection}
 use Rattle.connection.specs.declared.Done.{Done}
 use Rattle.connection.specs.declared.Gate.{Gate}
@@ -44,9 +46,13 @@ bareAnswer r all = record {
   wakes = record { reader = false; writer = false; opener = false; all = all };
 }
 
+-- "a lent table, pool or header of the wrong size"
+abbrev pub sized : Connection → ℕ → ℕ → ℕ → ℕ → Bool
+sized c t l p sent = cond (fits (c .memory .slots) (c .memory .pool) t l p) (eqb sent 12) false
+
 -- "nothing changed"
 abbrev pub refused : Connection → Reply → Done
-refused c r = record { connection = c; answer = bareAnswer r false; read = 0 }
+refused c r = answered c (bareAnswer r false)
 
 -- "10, 5 (ended)": a time above 2^62-1, and next a connection that has ended
 abbrev pub gateOf : Bool → ℕ → Gate
@@ -64,10 +70,14 @@ vacancyIn t k = vacant (lowestFree t k)
 abbrev pub outAfter : List ℕ → List ℕ → List ℕ
 outAfter bytes out = bytes ++ drop (length bytes) out
 
--- "Lent output changes only in the bytes read and in the 12 of a header given; replies but 0, 1 and 2 give neither."
+-- "replies but 0, 1 and 2 give neither" bytes read nor a header
+abbrev pub Silent : Done → Type 0
+Silent d = mayGive (d .answer .reply) ≡ false → (d .answer .sent ≡ Nothing) × (d .read ≡ 0)
+
+-- "Lent output changes only in the bytes read and in the 12 of a header given"
 pub record Gives (d : Done) (s s′ : List ℕ) : Type 0 where
   pub header : s′ ≡ sentAfter (d .answer .sent) s
-  pub only : mayGive (d .answer .reply) ≡ false → (d .answer .sent ≡ Nothing) × (d .read ≡ 0)
+  pub silent : Silent d
 
 -- the answer is the outcome's, but for bytes
 pub record Says (a : Answer) (o : Outcome) : Type 0 where

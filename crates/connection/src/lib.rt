@@ -1,9 +1,11 @@
 // The connection: what it holds, and what its calls share. The calls themselves stand in the crates above.
 ghost use mathlib.Core.Path.{_≡_};
-ghost use Rattle.connection.specs.Parts.{withMemory, withGrowth, withRtt, withOpens, handleOf};
-ghost use Rattle.connection.specs.Promises.{bareAnswer, refused, gateOf, vacancyIn, sentAfter, Over};
+ghost use Rattle.connection.specs.Parts.{withMemory, withGrowth, withRtt, withOpens, answered, pinged, settled, handleOf};
+ghost use Rattle.connection.specs.Promises.{sized, bareAnswer, refused, gateOf, vacancyIn, sentAfter, Over};
 use frame::header;
+use frame::header::HEADER_SIZE;
 use handlers::Answer;
+use handlers::Pong;
 use handlers::Vacancy;
 use memory::Memory;
 use rtt::Rtt;
@@ -119,6 +121,45 @@ impl Connection {
     }
 }
 
+// Whether all that is lent has its size, with twelve bytes for a header.
+pub fn sized(c: Connection, table: usize, links: usize, pool: usize, sent: usize) -> bool
+    ensures { λ r. ⌜ r ≡ sized c table links pool sent ⌝ }
+{
+    let memory = c.memory;
+    if memory::fits(memory.slots, memory.pool, table, links, pool) {
+        return sent == HEADER_SIZE;
+    }
+    false
+}
+
+// The connection, and an answer to a call that reads no bytes.
+pub fn answered(c: Connection, answer: Answer) -> Done
+    ensures { λ r. ⌜ r ≡ answered c answer ⌝ }
+{
+    Done {
+        connection: c,
+        answer,
+        read: 0,
+    }
+}
+
+// The connection with the pings that a tick or a Ping leaves, and what it answers.
+pub fn pinged(c: Connection, pong: Pong) -> Done
+    ensures { λ r. ⌜ r ≡ pinged c pong ⌝ }
+{
+    let connection = c.with_rtt(pong.rtt);
+    let answer = pong.answer;
+    answered(connection, answer)
+}
+
+// The connection with another next id, open wait and memory, and the answer.
+pub fn settled(c: Connection, next_id: u32, open_wait: bool, memory: Memory, answer: Answer) -> Done
+    ensures { λ r. ⌜ r ≡ settled c «next_id» «open_wait» memory answer ⌝ }
+{
+    let connection = c.with_opens(next_id, open_wait).with_memory(memory);
+    answered(connection, answer)
+}
+
 // An answer of the reply alone; `all` says that the connection ended by it.
 pub fn bare(reply: Reply, all: bool) -> Answer
     ensures { λ r. ⌜ r ≡ bareAnswer reply all ⌝ }
@@ -142,11 +183,7 @@ pub fn refuse(c: Connection, reply: Reply) -> Done
     ensures { λ r. ⌜ r ≡ refused c reply ⌝ }
 {
     let answer = bare(reply, false);
-    Done {
-        connection: c,
-        answer,
-        read: 0,
-    }
+    answered(c, answer)
 }
 
 // Refuses a time above 2^62-1 and, next, an ended connection.
@@ -210,18 +247,15 @@ pub fn end(c: Connection, table: &mut [u64], reply: Reply) -> Done
     let config = c.config;
     let rtt = c.rtt;
     let memory = c.memory.end_all(table);
+    let connection = Connection {
+        config,
+        rtt,
+        ended: true,
+        next_id: c.next_id,
+        open_wait: false,
+        growth: c.growth,
+        memory,
+    };
     let answer = bare(reply, true);
-    Done {
-        connection: Connection {
-            config,
-            rtt,
-            ended: true,
-            next_id: c.next_id,
-            open_wait: false,
-            growth: c.growth,
-            memory,
-        },
-        answer,
-        read: 0,
-    }
+    answered(connection, answer)
 }

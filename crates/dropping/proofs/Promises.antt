@@ -42,4 +42,4 @@ module _ (c : Connection) (t l p : List ℕ) (sized : Bool) (i : Slot) (time : �
 -- a drop that is done may give a header
 pub drop-gives : (c : Connection) (t l : List ℕ) (i : Slot) (row : Row) (d : Done) (t′ l′ s s′ : List ℕ) → Releases c t l i row d t′ l′
     → s′ ≡ sentAfter (d .answer .sent) s → Gives d s s′
-drop-gives c t l i row d t′ l′ s s′ x h = record { header = h; only = λ w. never (sym (ap (λ (r : Reply). mayGive r) (x .done)) ∙ w) }
+drop-gives c t l i row d t′ l′ s s′ x h = record { header = h; silent = λ w. never (sym (ap (λ (r : Reply). mayGive r) (x .done)) ∙ w) }

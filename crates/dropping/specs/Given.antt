@@ -2,10 +2,9 @@
 use mathlib.Core.Bool.{Bool, false, cond}
 use Prim.Native.Nat.{ℕ}
 use lib.Dec.{eqb}
-use Rattle.chunks.specs.Blocks.{blocksFor}
-use Rattle.table.specs.Table.{size}
+use Rattle.memory.specs.Counts.{linksFit}
 use Rattle.connection.specs.declared.Connection.{Connection}
 
 -- 01: "a lent table .. or header of the wrong size": table and links by the settings, and twelve bytes for a header
 abbrev pub sized : Connection → ℕ → ℕ → ℕ → Bool
-sized c t l s = cond (eqb t (size (c .memory .slots))) (cond (eqb l (blocksFor (c .memory .slots) (c .memory .pool))) (eqb s 12) false) false
+sized c t l s = cond (linksFit (c .memory .slots) (c .memory .pool) t l) (eqb s 12) false

@@ -23,7 +23,7 @@ use Rattle.handlers.specs.declared.Known.the-variants as known
 use Rattle.memory.specs.Moves.{Stores}
 use Rattle.memory.specs.declared.Memory.{Memory}
 use Rattle.connection.specs.Abstract.{absOf, Valid}
-use Rattle.connection.specs.Parts.{withMemory, withGrowth}
+use Rattle.connection.specs.Parts.{withMemory, withGrowth, answered}
 use Rattle.connection.specs.Promises.{bareAnswer, Follows}
 use Rattle.connection.specs.declared.Connection.{Connection}
 use Rattle.connection.specs.declared.Done.{Done}
@@ -31,7 +31,7 @@ use Rattle.dropping.specs.declared.Removed.{Removed}
 
 -- the connection with this growth and this memory, and the answer
 abbrev pub released : Connection → ℕ → Memory → Answer → Done
-released c g m o = record { connection = withMemory (withGrowth c g) m; answer = o; read = 0 }
+released c g m o = answered (withMemory (withGrowth c g) m) o
 
 -- the stream s at slot j; at the handle's own slot i nothing is put, since it is freed next
 pub record Puts (m : Memory) (t : List ℕ) (i j : Slot) (row : Row) (s : Stream) (listed : Bool) (m′ : Memory) (t′ : List ℕ) : Type 0 where

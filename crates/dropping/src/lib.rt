@@ -33,12 +33,8 @@ fn sized(c: Connection, table_len: usize, links_len: usize, sent_len: usize) -> 
     ensures { λ r. ⌜ r ≡ sized c «table_len» «links_len» «sent_len» ⌝ }
 {
     let memory = c.memory;
-    let k = memory.slots;
-    let p = memory.pool;
-    if table_len == table::size(k) {
-        if links_len == chunks::blocks(k, p) {
-            return sent_len == HEADER_SIZE;
-        }
+    if memory::links_fit(memory.slots, memory.pool, table_len, links_len) {
+        return sent_len == HEADER_SIZE;
     }
     false
 }
@@ -48,11 +44,7 @@ fn released(c: Connection, growth: u64, memory: Memory, answer: Answer) -> Done
     ensures { λ r. ⌜ r ≡ released c growth memory answer ⌝ }
 {
     let connection = c.with_growth(growth).with_memory(memory);
-    Done {
-        connection,
-        answer,
-        read: 0,
-    }
+    connection::answered(connection, answer)
 }
 
 // Puts the stream at its place, if that is not the handle's own slot, which is freed next.

@@ -33,11 +33,11 @@ use Rattle.table.specs.Table.{foundOf, Finds}
 use Rattle.table.specs.declared.Found.{Found}
 use Rattle.handlers.specs.Actions.{pongHeard, pingHeard, noAction, onPing}
 use Rattle.handlers.proofs.Rules.{heardBy, ping-performs}
-use Rattle.memory.specs.Counts.{fits}
 use Rattle.memory.specs.Slots.{slotsOf}
 use Rattle.memory.proofs.Laws.{never, find-slots}
 use Rattle.connection.specs.Abstract.{absOf, Valid}
 use Rattle.connection.specs.Parts.{pinged}
+use Rattle.connection.specs.Promises as connection
 use Rattle.connection.specs.Promises.{refused, gateOf, Follows, Promised, Over}
 use Rattle.connection.proofs.Promises.{giving-leaves, answer-follows}
 use Rattle.connection.proofs.Tests.{gate-shut, gate-open}
@@ -167,6 +167,4 @@ module _ (c : Connection) (t l p head body : List ℕ) (now sent : ℕ) where
   }
     where
       given : eqb (length head) 12 ≡ true
-      given =
-          let q = both (fits (c .memory) (length t) (length l) (length p)) (cond (eqb sent 12) (eqb (length head) 12) false) e in
-          both (eqb sent 12) (eqb (length head) 12) (q .1) .1
+      given = both (connection.sized c (length t) (length l) (length p) sent) (eqb (length head) 12) e .1

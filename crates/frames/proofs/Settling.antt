@@ -21,13 +21,13 @@ use Rattle.memory.specs.Slots.{slotsOf}
 use Rattle.memory.specs.declared.Memory.{Memory}
 use Rattle.memory.proofs.Laws.{never, slots-length}
 use Rattle.connection.specs.Abstract.{absOf, Valid, Fresh}
+use Rattle.connection.specs.Parts.{settled}
 use Rattle.connection.specs.Promises.{refused, Follows, Over}
 use Rattle.connection.proofs.Promises.{giving-leaves, refuse-follows, answer-follows}
 use Rattle.connection.proofs.Ids.{below-set}
 use Rattle.rules.specs.Replies.{leavesAll, mayGive}
 use Rattle.connection.specs.declared.Connection.{Connection}
 use Rattle.connection.specs.declared.Done.{Done}
-use Rattle.frames.specs.Shown.{settled}
 use Rattle.frames.specs.Handles.{Handles, Replaces, Opens, Room}
 
 -- ---- a refusal
@@ -56,7 +56,7 @@ module _ (c : Connection) (t l p : List ℕ) (wait : Bool) (o : Answer) (m′ : 
   a = withOpenWait (absOf c t l p) wait
 
   abbrev d : Done
-  d = settled c wait m′ o
+  d = settled c (c .«next_id») wait m′ o
 
   -- what is done is no refusal
   acted : (rule : Conn → Result) → mayGive (o .reply) ≡ true → (Valid c t l p → Follows c t l p (rule (absOf c t l p)) d t′ l′ p′) → Handles rule c t l p d t′ l′ p′

@@ -10,7 +10,6 @@ use Rattle.frame.specs.declared.header.Decoded.{Decoded}
 use Rattle.frame.specs.declared.header.Decoded.the-variants as found
 use Rattle.frame.specs.declared.header.Tag.{Tag}
 use Rattle.frame.specs.declared.header.Tag.the-variants as tag
-use Rattle.stream.specs.declared.Sent.the-variants.{Nothing}
 use Rattle.stream.specs.declared.Stream.{Stream}
 use Rattle.rules.specs.Lists.{nowhere}
 use Rattle.rules.specs.State.{Conn, entry, find, isOwn, withOpenWait}
@@ -25,18 +24,14 @@ use Rattle.table.specs.declared.row.Row.{Row}
 use Rattle.handlers.specs.Perform.{perform}
 use Rattle.handlers.specs.declared.Action.{Action}
 use Rattle.handlers.specs.declared.Action.the-variants as action
-use Rattle.memory.specs.Counts.{fits}
 use Rattle.memory.specs.Moves as memory
 use Rattle.memory.specs.Slots.{slotsOf}
 use Rattle.connection.specs.Abstract.{absOf, Valid}
-use Rattle.connection.specs.Promises.{Follows}
+use Rattle.connection.specs.Promises as connection
+use Rattle.connection.specs.Promises.{Silent, Follows}
 use Rattle.rules.specs.Replies.{leavesAll, mayGive}
 use Rattle.connection.specs.declared.Connection.{Connection}
 use Rattle.connection.specs.declared.Done.{Done}
-
--- "replies but 0, 1 and 2 give neither" a header nor bytes read
-abbrev pub Silent : Done → Type 0
-Silent d = mayGive (d .answer .reply) ≡ false → (d .answer .sent ≡ Nothing) × (d .read ≡ 0)
 
 -- from a valid state the rule's step; a refusal leaves all as it was; and a header only where the reply may give one
 pub record Handles (rule : Conn → Result) (c : Connection) (t l p : List ℕ) (d : Done) (t′ l′ p′ : List ℕ) : Type 0 where
@@ -125,6 +120,6 @@ HandlesDecoded c t l p f body now d t′ l′ p′ = Handles (λ x. timed x now 
 
 -- ---- the call
 
--- whether all that is lent has its size: "a lent table, pool or header of the wrong size"
+-- whether all that is lent has its size, the frame's header among it
 abbrev pub sized : Connection → ℕ → ℕ → ℕ → ℕ → ℕ → Bool
-sized c t l p sent head = cond (fits (c .memory) t l p) (cond (eqb sent 12) (eqb head 12) false) false
+sized c t l p sent head = cond (connection.sized c t l p sent) (eqb head 12) false

@@ -7,20 +7,16 @@ use Rattle.frame.specs.declared.header.Header.{Header}
 use Rattle.handlers.specs.Actions.{acked}
 use Rattle.handlers.specs.Perform.{dataAction, updateAction}
 use Rattle.handlers.specs.declared.Action.{Action}
-use Rattle.handlers.specs.declared.Answer.{Answer}
 use Rattle.handlers.specs.declared.Known.the-variants as known
 use Rattle.handlers.specs.declared.Limits.{Limits}
 use Rattle.handlers.specs.declared.Vacancy.{Vacancy}
 use Rattle.handlers.specs.declared.Vacancy.the-variants as vacancy
-use Rattle.memory.specs.declared.Memory.{Memory}
 use Rattle.table.specs.Rows.{blank}
 use Rattle.table.specs.Table.{rowAt}
 use Rattle.table.specs.declared.Found.{Found}
 use Rattle.table.specs.declared.Found.the-variants as found
-use Rattle.connection.specs.Parts.{withMemory, withOpens}
 use Rattle.connection.specs.Promises.{vacancyIn}
 use Rattle.connection.specs.declared.Connection.{Connection}
-use Rattle.connection.specs.declared.Done.{Done}
 use Rattle.frames.specs.declared.shown.Seen.{Seen}
 use Rattle.frames.specs.declared.shown.View.{View}
 
@@ -70,7 +66,3 @@ decided isData r h now =
     cond isData
     (dataAction (r .limits) (r .woke) (r .seen .known) (r .vacancy) h now)
     (updateAction (r .limits) (r .woke) (r .seen .known) (r .vacancy) h now)
-
--- the connection with this open wait and this memory, and the answer
-abbrev pub settled : Connection → Bool → Memory → Answer → Done
-settled c wait m a = record { connection = withMemory (withOpens c (c .«next_id») wait) m; answer = a; read = 0 }

@@ -7,7 +7,7 @@ ghost use lib.ListN.{length};
 ghost use Rattle.connection.specs.Promises.{Promised, Gives};
 ghost use Rattle.rules.specs.Frames.{bodyLength};
 ghost use Rattle.rules.specs.Step.{frame};
-ghost use Rattle.frames.specs.Shown.{settled, isFound, decided};
+ghost use Rattle.frames.specs.Shown.{isFound, decided};
 ghost use Rattle.frames.specs.Handles.{Applies, HandlesStream, HandlesPing, HandlesType, HandlesHeader, HandlesFound, HandlesDecoded, sized};
 use connection::Connection;
 use connection::Done;
@@ -18,24 +18,10 @@ use frame::header::HEADER_SIZE;
 use frame::header::Header;
 use frame::header::Tag;
 use handlers::Action;
-use handlers::Answer;
-use memory::Memory;
 use rules::Reply;
 use shown::View;
 use table::Found;
 use table::row::Row;
-
-// The connection with another open wait and other memory, and the answer.
-fn settled(c: Connection, open_wait: bool, memory: Memory, answer: Answer) -> Done
-    ensures { λ r. ⌜ r ≡ settled c «open_wait» memory answer ⌝ }
-{
-    let connection = c.with_opens(c.next_id, open_wait).with_memory(memory);
-    Done {
-        connection,
-        answer,
-        read: 0,
-    }
-}
 
 // Does what the action says. `row` is what its slot holds, and `open_wait` is what the ACK step leaves.
 fn apply(
@@ -51,20 +37,21 @@ fn apply(
     ensures { λ r. ⌜ Applies c (now (table .entry)) (now (links .entry)) (now (pool .entry)) «open_wait» row action (now (body .entry)) r (now (table .exit)) (now (links .exit)) (now (pool .exit)) ⌝ }
 {
     let memory = c.memory;
+    let next_id = c.next_id;
     match action {
         Action::Refuse(reply) => connection::refuse(c, reply),
-        Action::Answer(answer) => settled(c, open_wait, memory, answer),
+        Action::Answer(answer) => connection::settled(c, next_id, open_wait, memory, answer),
         Action::Store(slot, stream, listed, answer) => {
             let after = memory.store(table, slot, row, stream, listed);
-            settled(c, open_wait, after, answer)
+            connection::settled(c, next_id, open_wait, after, answer)
         }
         Action::Queue(slot, stream, listed, answer) => {
             let after = memory.feed(table, links, pool, slot, row, stream, listed, body);
-            settled(c, open_wait, after, answer)
+            connection::settled(c, next_id, open_wait, after, answer)
         }
         Action::New(slot, stream, answer) => {
             let after = memory.make(table, links, pool, slot, stream, body);
-            settled(c, open_wait, after, answer)
+            connection::settled(c, next_id, open_wait, after, answer)
         }
     }
 }
@@ -135,13 +122,7 @@ fn on_ping(c: Connection, table: &[u64], header: Header, time: u64) -> Done
     let found = table::find(table, memory.slots, header.stream_id);
     let in_table = is_found(found);
     let pong = handlers::ping::on_ping(rtt, in_table, header, time, config.interval);
-    let connection = c.with_rtt(pong.rtt);
-    let answer = pong.answer;
-    Done {
-        connection,
-        answer,
-        read: 0,
-    }
+    connection::pinged(c, pong)
 }
 
 // A frame whose body is as long as its header says, by its type.
@@ -226,11 +207,8 @@ fn on_decoded(
 fn sized(c: Connection, table: usize, links: usize, pool: usize, sent: usize, head: usize) -> bool
     ensures { λ r. ⌜ r ≡ sized c table links pool sent head ⌝ }
 {
-    let memory = c.memory;
-    if memory.fits(table, links, pool) {
-        if sent == HEADER_SIZE {
-            return head == HEADER_SIZE;
-        }
+    if connection::sized(c, table, links, pool, sent) {
+        return head == HEADER_SIZE;
     }
     false
 }

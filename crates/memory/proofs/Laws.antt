@@ -28,7 +28,7 @@ use Rattle.table.specs.declared.Found.{Found}
 use Rattle.table.proofs.Laws.{length-view, nth-view}
 use Rattle.rules.proofs.Lists.{both, Says, first-says, first-same, sum-same}
 use Rattle.table.proofs.Searches.{found, lowest}
-use Rattle.memory.specs.Counts.{fits}
+use Rattle.memory.specs.Counts.{tableFits, linksFit, fits}
 use Rattle.memory.specs.Moves.{held}
 use Rattle.memory.specs.Slots.{queues, entryOf, slotsOf, Sized, Valid}
 use Rattle.memory.specs.declared.Memory.{Memory}
@@ -228,19 +228,25 @@ counts-unique m t l p v m′ t′ l′ p′ v′ e = (
 -- ---- sizes
 
 -- with settings in their ranges, the test of the sizes is exact
-pub fits-sized : (m : Memory) (t l p : List ℕ) → 1 ≤ m .slots → m .slots ≤ 1024 → m .pool < 2 ^ 32 → fits m (length t) (length l) (length p) ≡ true → Sized m t l p
+pub fits-sized : (m : Memory) (t l p : List ℕ) → 1 ≤ m .slots → m .slots ≤ 1024 → m .pool < 2 ^ 32 → fits (m .slots) (m .pool) (length t) (length l) (length p) ≡ true → Sized m t l p
 fits-sized m t l p some most pooled e =
     let n = blocksFor (m .slots) (m .pool) in
-    let a = both (eqb (length t) (table.size (m .slots))) (cond (eqb (length l) n) (eqb (length p) (n * BLOCK)) false) e in
-    let b = both (eqb (length l) n) (eqb (length p) (n * BLOCK)) (a .1) in
+    let a = both (linksFit (m .slots) (m .pool) (length t) (length l)) (eqb (length p) (n * BLOCK)) e in
+    let b = both (tableFits (m .slots) (length t)) (eqb (length l) n) (a .0) in
     record {
       some = some;
       most = most;
       pooled = pooled;
-      table = eqb-true (length t) (table.size (m .slots)) (a .0);
-      links = eqb-true (length l) n (b .0);
-      bytes = eqb-true (length p) (n * BLOCK) (b .1);
+      table = eqb-true (length t) (table.size (m .slots)) (b .0);
+      links = eqb-true (length l) n (b .1);
+      bytes = eqb-true (length p) (n * BLOCK) (a .1);
     }
 
-pub sized-fits : (m : Memory) (t l p : List ℕ) → Sized m t l p → fits m (length t) (length l) (length p) ≡ true
-sized-fits m t l p s = rw (eq-eqb _ _ (s .table), eq-eqb _ _ (s .links)) (eq-eqb _ _ (s .bytes))
+pub sized-table : (m : Memory) (t l p : List ℕ) → Sized m t l p → tableFits (m .slots) (length t) ≡ true
+sized-table m t l p s = eq-eqb _ _ (s .table)
+
+pub sized-links : (m : Memory) (t l p : List ℕ) → Sized m t l p → linksFit (m .slots) (m .pool) (length t) (length l) ≡ true
+sized-links m t l p s = rw (sized-table m t l p s) (eq-eqb _ _ (s .links))
+
+pub sized-fits : (m : Memory) (t l p : List ℕ) → Sized m t l p → fits (m .slots) (m .pool) (length t) (length l) (length p) ≡ true
+sized-fits m t l p s = rw (sized-links m t l p s) (eq-eqb _ _ (s .bytes))

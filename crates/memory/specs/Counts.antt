@@ -10,9 +10,17 @@ use Rattle.table.specs.Table.{size}
 use Rattle.table.specs.declared.row.Row.{Row}
 use Rattle.memory.specs.declared.Memory.{Memory}
 
--- whether lent slices of these lengths are of the sizes
-abbrev pub fits : Memory → ℕ → ℕ → ℕ → Bool
-fits m t l p = cond (eqb t (size (m .slots))) (cond (eqb l (blocksFor (m .slots) (m .pool))) (eqb p (blocksFor (m .slots) (m .pool) * BLOCK)) false) false
+-- whether a lent table of n cells has the size for K slots
+abbrev pub tableFits : ℕ → ℕ → Bool
+tableFits K n = eqb n (size K)
+
+-- the same with links, for K slots and P bytes
+abbrev pub linksFit : ℕ → ℕ → ℕ → ℕ → Bool
+linksFit K P t l = cond (tableFits K t) (eqb l (blocksFor K P)) false
+
+-- the same with a pool
+abbrev pub fits : ℕ → ℕ → ℕ → ℕ → ℕ → Bool
+fits K P t l p = cond (linksFit K P t l) (eqb p (blocksFor K P * BLOCK)) false
 
 -- how many streams are in the table, once one that was in it, or not, stays in it, or not
 abbrev pub left : ℕ → Bool → Bool → ℕ

@@ -2,7 +2,7 @@
 ghost use mathlib.Core.Path.{_≡_};
 ghost use Prim.Native.Nat.{_+_, _-_, _%_, _^_};
 ghost use Rattle.table.specs.Table.{stored};
-ghost use Rattle.memory.specs.Counts.{left, fits, next, counted};
+ghost use Rattle.memory.specs.Counts.{left, tableFits, linksFit, fits, next, counted};
 ghost use Rattle.memory.specs.Moves.{Stores, Feeds, Drains, Makes, Frees, Ends, Starts};
 use chunks::Free;
 use chunks::Queue;
@@ -71,6 +71,36 @@ fn put(table: &mut [u64], k: u32, slot: Slot, stream: Stream, listed: bool, queu
     );
 }
 
+// Whether a lent table of this length has the size for k slots.
+pub fn table_fits(k: u32, table_len: usize) -> bool
+    ensures { λ r. ⌜ r ≡ tableFits k «table_len» ⌝ }
+{
+    let size = table::size(k);
+    table_len == size
+}
+
+// The same with links, for k slots and p bytes.
+pub fn links_fit(k: u32, p: u32, table_len: usize, links_len: usize) -> bool
+    ensures { λ r. ⌜ r ≡ linksFit k p «table_len» «links_len» ⌝ }
+{
+    if table_fits(k, table_len) {
+        let count = chunks::blocks(k, p);
+        return links_len == count;
+    }
+    false
+}
+
+// The same with a pool.
+pub fn fits(k: u32, p: u32, table_len: usize, links_len: usize, pool_len: usize) -> bool
+    ensures { λ r. ⌜ r ≡ fits k p «table_len» «links_len» «pool_len» ⌝ }
+{
+    if links_fit(k, p, table_len, links_len) {
+        let size = chunks::pool_len(k, p);
+        return pool_len == size;
+    }
+    false
+}
+
 // Frees every slot and every block.
 pub fn lay_out(table: &mut [u64], links: &mut [u32], slots: u32, pool: u32) -> Memory
     ensures { λ r. ⌜ Starts slots pool r (now (table .exit)) (now (links .exit)) ⌝ }
@@ -87,20 +117,6 @@ pub fn lay_out(table: &mut [u64], links: &mut [u32], slots: u32, pool: u32) -> M
 }
 
 impl Memory {
-    // Whether lent slices of these lengths are of its sizes.
-    pub fn fits(self, table_len: usize, links_len: usize, pool_len: usize) -> bool
-        ensures { λ r. ⌜ r ≡ fits self «table_len» «links_len» «pool_len» ⌝ }
-    {
-        let k = self.slots;
-        let p = self.pool;
-        if table_len == table::size(k) {
-            if links_len == chunks::blocks(k, p) {
-                return pool_len == chunks::pool_len(k, p);
-            }
-        }
-        false
-    }
-
     // The bytes that may still be queued.
     pub fn room(self) -> u32
         ensures { λ r. ⌜ r ≡ self .pool - self .unread ⌝ }

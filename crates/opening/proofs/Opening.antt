@@ -34,6 +34,7 @@ use Rattle.memory.specs.Slots.{slotsOf}
 use Rattle.memory.specs.declared.Memory.{Memory}
 use Rattle.memory.proofs.Laws.{never, free-at, listed-count, backlog}
 use Rattle.connection.specs.Abstract.{absOf, Valid, Fresh}
+use Rattle.connection.specs.Parts.{settled}
 use Rattle.connection.specs.Promises.{bareAnswer, refused, gateOf, Follows, Over, vacancyIn}
 use Rattle.connection.specs.declared.Connection.{Connection}
 use Rattle.connection.specs.declared.Done.{Done}
@@ -41,7 +42,7 @@ use Rattle.connection.specs.declared.Gate.the-variants as gate
 use Rattle.connection.proofs.Promises.{refuse-follows, answer-follows}
 use Rattle.connection.proofs.Tests.{gate-shut, gate-open, vacancy-rules}
 use Rattle.connection.proofs.Ids.{Below, below-set}
-use Rattle.opening.specs.Open.{decided, opened, settled, Opens, Fits, Sound, Acts, Enters}
+use Rattle.opening.specs.Open.{decided, opened, Opens, Fits, Sound, Acts, Enters}
 
 -- ---- the next id
 

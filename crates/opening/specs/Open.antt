@@ -18,9 +18,7 @@ use Rattle.handlers.specs.declared.Answer.{Answer}
 use Rattle.handlers.specs.declared.Opening.{Opening}
 use Rattle.handlers.specs.declared.Opening.the-variants as opening
 use Rattle.memory.specs.Slots.{slotsOf}
-use Rattle.memory.specs.declared.Memory.{Memory}
 use Rattle.connection.specs.Abstract.{absOf, Valid}
-use Rattle.connection.specs.Parts.{withMemory, withOpens}
 use Rattle.connection.specs.Promises.{vacancyIn, Follows}
 use Rattle.connection.specs.declared.Connection.{Connection}
 use Rattle.connection.specs.declared.Done.{Done}
@@ -34,10 +32,6 @@ decided c t now =
 -- the answer that gives a new stream's slot and id
 abbrev pub opened : Slot → ℕ → Answer
 opened i id = record { reply = reply.Done; slot = which.At i; value = value.Of id; sent = Nothing; wakes = noWakes }
-
--- the connection with this next id, this open wait and this memory, and the answer
-abbrev pub settled : Connection → ℕ → Bool → Memory → Answer → Done
-settled c next wait m a = record { connection = withMemory (withOpens c next wait) m; answer = a; read = 0 }
 
 -- the stream may be made in slot i: the slot is free, its id is the next one, and two more comes after it
 pub record Opens (c : Connection) (t l p : List ℕ) (i : ℕ) (s : Stream) (after : ℕ) : Type 0 where

@@ -1,19 +1,17 @@
 -- A new connection. Sentences are document 01's.
 use mathlib.Core.Path.{_≡_}
-use mathlib.Core.Bool.{Bool, true, false, cond}
+use mathlib.Core.Bool.{Bool, true, false}
 use mathlib.Core.List.{List}
-use Prim.Native.Nat.{ℕ, _*_, _≤_, _<_, _^_}
-use lib.Dec.{eqb}
+use Prim.Native.Nat.{ℕ, _≤_, _<_, _^_}
 use lib.ListN.{length}
 use Rattle.rtt.specs.Pings.{start}
-use Rattle.chunks.specs.Blocks.{BLOCK, blocksFor}
 use Rattle.rules.specs.Settings.{checked}
 use Rattle.rules.specs.State.{firstOwn, initial}
 use Rattle.rules.specs.declared.Settings.{Settings}
 use Rattle.rules.specs.declared.Setting.{Setting}
 use Rattle.rules.specs.declared.Config.{Config}
 use Rattle.rules.specs.declared.Checked.the-variants as settings
-use Rattle.table.specs.Table.{size}
+use Rattle.memory.specs.Counts.{fits}
 use Rattle.memory.specs.declared.Memory.{Memory}
 use Rattle.connection.specs.Abstract.{absOf, Valid}
 use Rattle.connection.specs.declared.Connection.{Connection}
@@ -28,8 +26,7 @@ number Size = 14
 
 -- whether lent slices of these lengths have the sizes for K slots and P bytes
 abbrev pub sized : Config → ℕ → ℕ → ℕ → Bool
-sized k t l p =
-    cond (eqb t (size (k .slots))) (cond (eqb l (blocksFor (k .slots) (k .pool))) (eqb p (blocksFor (k .slots) (k .pool) * BLOCK)) false) false
+sized k t l p = fits (k .slots) (k .pool) t l p
 
 -- the connection before its first call
 abbrev pub started : Config → Memory → Connection

@@ -1,12 +1,11 @@
 // What an open does to the connection and to lent memory.
 ghost use mathlib.Core.Path.{_≡_};
-ghost use Rattle.opening.specs.Open.{decided, opened, settled, Acts};
+ghost use Rattle.opening.specs.Open.{decided, opened, Acts};
 use connection::Connection;
 use connection::Done;
 use frame::header::StreamId;
 use handlers::Answer;
 use handlers::Opening;
-use memory::Memory;
 use rules::Reply;
 use rules::Slot;
 use rules::Value;
@@ -51,18 +50,6 @@ fn opened(slot: Slot, id: StreamId) -> Answer
     }
 }
 
-// The connection with another next id, open wait and memory, and the answer.
-fn settled(c: Connection, next_id: u32, open_wait: bool, memory: Memory, answer: Answer) -> Done
-    ensures { λ r. ⌜ r ≡ settled c «next_id» «open_wait» memory answer ⌝ }
-{
-    let connection = c.with_opens(next_id, open_wait).with_memory(memory);
-    Done {
-        connection,
-        answer,
-        read: 0,
-    }
-}
-
 // Does what the opening says.
 pub(crate) fn act(
     c: Connection,
@@ -78,13 +65,13 @@ pub(crate) fn act(
         Opening::End(reply) => connection::end(c, table, reply),
         Opening::Wait => {
             let answer = connection::bare(Reply::Wait, false);
-            settled(c, c.next_id, true, memory, answer)
+            connection::settled(c, c.next_id, true, memory, answer)
         }
         Opening::Refuse(reply) => connection::refuse(c, reply),
         Opening::New(slot, stream, next_id) => {
             let after = memory.make(table, links, pool, slot, stream, b"");
             let answer = opened(slot, stream.id);
-            settled(c, next_id, c.open_wait, after, answer)
+            connection::settled(c, next_id, c.open_wait, after, answer)
         }
     }
 }

@@ -8,8 +8,7 @@ ghost use Rattle.rules.specs.Step.{open-stream};
 ghost use Rattle.memory.specs.Counts.{fits};
 ghost use Rattle.connection.specs.Promises.{Promised};
 ghost use Rattle.opening.specs.Open.{Enters};
-ghost use Rattle.opening.specs.Start.{sized, started, number, Lays, Creates};
-use chunks::Free;
+ghost use Rattle.opening.specs.Start.{started, number, Lays, Creates};
 use connection::Connection;
 use connection::Done;
 use connection::Gate;
@@ -40,21 +39,6 @@ impl Created {
             Created::Size => 14,
         }
     }
-}
-
-// Whether lent slices of these lengths are what the settings ask for.
-fn sized(config: Config, table_len: usize, links_len: usize, pool_len: usize) -> bool
-    ensures { λ r. ⌜ r ≡ sized config «table_len» «links_len» «pool_len» ⌝ }
-{
-    let free = Free { head: 0, count: 0 };
-    let memory = Memory {
-        slots: config.slots,
-        pool: config.pool,
-        free,
-        listed: 0,
-        unread: 0,
-    };
-    memory.fits(table_len, links_len, pool_len)
 }
 
 // The id of the first stream that this side opens.
@@ -89,7 +73,13 @@ fn started(config: Config, memory: Memory) -> Connection
 fn lay_out(config: Config, table: &mut [u64], links: &mut [u32], pool: &mut [u8]) -> Created
     ensures { λ r. ⌜ Lays config (now (table .entry)) (now (links .entry)) (now (pool .entry)) r (now (table .exit)) (now (links .exit)) (now (pool .exit)) ⌝ }
 {
-    let right = sized(config, table.len(), links.len(), pool.len());
+    let right = memory::fits(
+        config.slots,
+        config.pool,
+        table.len(),
+        links.len(),
+        pool.len(),
+    );
     if !right {
         return Created::Size;
     }
@@ -125,10 +115,16 @@ fn enter(c: Connection, table: &mut [u64], links: &mut [u32], pool: &mut [u8], t
 
 // Opens a stream of our own.
 pub fn open(c: Connection, table: &mut [u64], links: &mut [u32], pool: &mut [u8], time: u64) -> Done
-    ensures { λ r. ⌜ Promised (fits (c .memory) (length (now (table .entry))) (length (now (links .entry))) (length (now (pool .entry)))) c (now (table .entry)) (now (links .entry)) (now (pool .entry)) (open-stream time) r (now (table .exit)) (now (links .exit)) (now (pool .exit)) ⌝ }
+    ensures { λ r. ⌜ Promised (fits (c .memory .slots) (c .memory .pool) (length (now (table .entry))) (length (now (links .entry))) (length (now (pool .entry)))) c (now (table .entry)) (now (links .entry)) (now (pool .entry)) (open-stream time) r (now (table .exit)) (now (links .exit)) (now (pool .exit)) ⌝ }
 {
     let memory = c.memory;
-    let right = memory.fits(table.len(), links.len(), pool.len());
+    let right = memory::fits(
+        memory.slots,
+        memory.pool,
+        table.len(),
+        links.len(),
+        pool.len(),
+    );
     if !right {
         return connection::refuse(c, Reply::Size);
     }

@@ -5,7 +5,6 @@ use mathlib.Core.List.{List}
 use Prim.Native.Nat.{ℕ, _≤_}
 use native.Mathlib.Omega.{arith}
 use lib.ListN.{length, drop}
-use Rattle.stream.specs.declared.Sent.the-variants.{Nothing}
 use Rattle.rules.specs.Ending.{Result, gives, refuse}
 use Rattle.rules.specs.Step.{step, read}
 use Rattle.rules.specs.declared.Reply.{Reply}
@@ -16,9 +15,9 @@ use Rattle.handlers.specs.Locals.{isShut, nothingRead}
 use Rattle.memory.proofs.Laws.{never}
 use Rattle.memory.proofs.Starts.{nothing-advances}
 use Rattle.connection.specs.Abstract.{absOf, Valid}
-use Rattle.connection.specs.Parts.{handleOf}
-use Rattle.connection.specs.Promises.{refused, sentAfter, Promised}
-use Rattle.rules.specs.Replies.{leavesAll, mayGive}
+use Rattle.connection.specs.Parts.{answered, handleOf}
+use Rattle.connection.specs.Promises.{refused, sentAfter, Silent, Promised}
+use Rattle.rules.specs.Replies.{leavesAll}
 use Rattle.connection.specs.declared.Connection.{Connection}
 use Rattle.connection.specs.declared.Done.{Done}
 use Rattle.connection.specs.declared.Handle.the-variants.{Held, Refused}
@@ -35,7 +34,7 @@ module _ (c : Connection) (t l p out : List ℕ) where
     refuses = r .refuses;
     within = r .within;
     past = r .past;
-    only = r .only;
+    silent = r .silent;
   }
 
   pub refused-reads : (rule : Result) (r : Reply) → (Valid c t l p → rule ≡ refuse (absOf c t l p) r) → Reads rule c t l p out (refused c r) t l out
@@ -44,14 +43,14 @@ module _ (c : Connection) (t l p out : List ℕ) where
     refuses = λ e. (refl, refl, refl);
     within = omega arith;
     past = refl;
-    only = λ e. (refl, refl);
+    silent = λ e. (refl, refl);
   })
 
   -- the answer of a read that gives nothing since the connection ended
   pub shut-reads : (i time : ℕ) → isShut (c .ended) (c .config .«read_after_close») ≡ true
-      → Reads (ruleOf (absOf c t l p) i (length out) time) c t l p out (record { connection = c; answer = nothingRead (record { 0 = i }); read = 0 }) t l out
+      → Reads (ruleOf (absOf c t l p) i (length out) time) c t l p out (answered c (nothingRead (record { 0 = i }))) t l out
   shut-reads i time shut = same-reads (gives (outcomeOf (nothingRead (record { 0 = i }))) (absOf c t l p)) (ruleOf (absOf c t l p) i (length out) time)
-      (record { connection = c; answer = nothingRead (record { 0 = i }); read = 0 }) t l out (λ v. shut-rule c t l p i (length out) time shut) (record {
+      (answered c (nothingRead (record { 0 = i }))) t l out (λ v. shut-rule c t l p i (length out) time shut) (record {
         steps = λ v. (
           record { valid = v; after = refl; advances = nothing-advances (c .memory) t l p (v .memory); says = record { reply = refl; slot = refl; value = refl; sent = refl; wakes = refl }; read = refl },
           refl,
@@ -59,7 +58,7 @@ module _ (c : Connection) (t l p out : List ℕ) where
         refuses = λ e. never (sym e);
         within = omega arith;
         past = refl;
-        only = λ e. (refl, refl);
+        silent = λ e. (refl, refl);
       })
 
 -- ---- the call
@@ -107,7 +106,7 @@ module _ (c : Connection) (t l p : List ℕ) (i : ℕ) (out : List ℕ) (time : 
       within = within sized refl;
       past = past sized refl;
       header = h;
-      only = only sized refl;
+      silent = silent sized refl;
     }
       where
         within : (b : Bool) → sized ≡ b → d .read ≤ length out
@@ -118,6 +117,6 @@ module _ (c : Connection) (t l p : List ℕ) (i : ℕ) (out : List ℕ) (time : 
         past true e = r .right e .past
         past false e = ap (λ (xs : List ℕ). drop (d .read) xs) (r .wrong e .kept)
 
-        only : (b : Bool) → sized ≡ b → mayGive (d .answer .reply) ≡ false → (d .answer .sent ≡ Nothing) × (d .read ≡ 0)
-        only true e q = r .right e .only q
-        only false e q = (ap (λ (x : Done). x .answer .sent) (r .wrong e .size), ap (λ (x : Done). x .read) (r .wrong e .size))
+        silent : (b : Bool) → sized ≡ b → Silent d
+        silent true e q = r .right e .silent q
+        silent false e q = (ap (λ (x : Done). x .answer .sent) (r .wrong e .size), ap (λ (x : Done). x .read) (r .wrong e .size))

@@ -76,7 +76,7 @@ module _ (c : Connection) (t l p : List ℕ) (i : ℕ) (s : ReadStep) (m′ : Me
     refuses = λ e. never (sym e ∙ giving-leaves (s .answer .reply) gives);
     within = room;
     past = drop-at o (drop (s .count) out) (s .count) (same ∙ front);
-    only = λ e. never (sym gives ∙ e);
+    silent = λ e. never (sym gives ∙ e);
   }
     where
       front : length (take (s .count) out) ≡ s .count

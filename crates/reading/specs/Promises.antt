@@ -3,10 +3,8 @@ use mathlib.Core.Path.{_≡_}
 use mathlib.Core.Bool.{Bool, true, false, cond}
 use mathlib.Core.List.{List}
 use Prim.Native.Nat.{ℕ, _≤_, _<_}
-use lib.Dec.{eqb}
 use lib.ListN.{length, drop}
 use Rattle.stream.specs.Streams.{sendWindowUpdate}
-use Rattle.stream.specs.declared.Sent.the-variants.{Nothing}
 use Rattle.rules.specs.State.{Conn, entry}
 use Rattle.rules.specs.Ending.{Result}
 use Rattle.rules.specs.Calls.{readRules}
@@ -17,18 +15,13 @@ use Rattle.table.specs.Table.{rowAt}
 use Rattle.table.specs.declared.row.Row.{Row}
 use Rattle.handlers.specs.Locals.{onRead, performRead}
 use Rattle.handlers.specs.declared.ReadStep.{ReadStep}
-use Rattle.memory.specs.Counts.{fits}
 use Rattle.memory.specs.Moves as memory
 use Rattle.memory.specs.Slots.{slotsOf}
 use Rattle.connection.specs.Abstract.{absOf, Valid}
-use Rattle.connection.specs.Promises.{refused, sentAfter, outAfter, Follows}
+use Rattle.connection.specs.Promises.{refused, sentAfter, outAfter, Silent, Follows}
 use Rattle.rules.specs.Replies.{leavesAll, mayGive}
 use Rattle.connection.specs.declared.Connection.{Connection}
 use Rattle.connection.specs.declared.Done.{Done}
-
--- 01: "a lent table, pool or header of the wrong size"
-abbrev pub sized : Connection → ℕ → ℕ → ℕ → ℕ → Bool
-sized c t l p sent = cond (fits (c .memory) t l p) (eqb sent 12) false
 
 -- 01: "Lent output changes only in the bytes read and in the 12 of a header given; replies but 0, 1 and 2 give neither."
 pub record Outputs (sized : Bool) (c : Connection) (t l p : List ℕ) (time i : ℕ) (out sent : List ℕ) (d : Done) (out′ sent′ : List ℕ) : Type 0 where
@@ -36,7 +29,7 @@ pub record Outputs (sized : Bool) (c : Connection) (t l p : List ℕ) (time i : 
   pub within : d .read ≤ length out
   pub past : drop (d .read) out′ ≡ drop (d .read) out
   pub header : sent′ ≡ sentAfter (d .answer .sent) sent
-  pub only : mayGive (d .answer .reply) ≡ false → (d .answer .sent ≡ Nothing) × (d .read ≡ 0)
+  pub silent : Silent d
 
 -- ---- the parts
 
@@ -46,7 +39,7 @@ pub record Reads (rule : Result) (c : Connection) (t l p out : List ℕ) (d : Do
   pub refuses : leavesAll (d .answer .reply) ≡ true → (d .connection ≡ c) × (t′ ≡ t) × (l′ ≡ l)
   pub within : d .read ≤ length out
   pub past : drop (d .read) out′ ≡ drop (d .read) out
-  pub only : mayGive (d .answer .reply) ≡ false → (d .answer .sent ≡ Nothing) × (d .read ≡ 0)
+  pub silent : Silent d
 
 -- "first the window update .., then the oldest min(asked, unread) bytes": the step, read off the slot's row
 abbrev pub stepOf : Connection → Slot → Row → ℕ → ℕ → ReadStep

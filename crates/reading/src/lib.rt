@@ -3,27 +3,15 @@ ghost use mathlib.Core.Path.{_≡_};
 ghost use Prim.Native.Nat.{_≤_};
 ghost use lib.ListN.{length};
 ghost use Rattle.rules.specs.Step.{read};
-ghost use Rattle.connection.specs.Promises.{Promised};
-ghost use Rattle.reading.specs.Promises.{sized, stepOf, Takes, ReadsRow, ReadsCall, Outputs};
+ghost use Rattle.connection.specs.Promises.{sized, Promised};
+ghost use Rattle.reading.specs.Promises.{stepOf, Takes, ReadsRow, ReadsCall, Outputs};
 use connection::Connection;
 use connection::Done;
 use connection::Handle;
-use frame::header::HEADER_SIZE;
 use handlers::ReadStep;
 use rules::Reply;
 use rules::Slot;
 use table::row::Row;
-
-// Whether all that is lent has its size.
-fn sized(c: Connection, table: usize, links: usize, pool: usize, sent: usize) -> bool
-    ensures { λ r. ⌜ r ≡ sized c table links pool sent ⌝ }
-{
-    let memory = c.memory;
-    if memory.fits(table, links, pool) {
-        return sent == HEADER_SIZE;
-    }
-    false
-}
 
 // The window step, with the bytes that are unread before the read, and what the read then does.
 fn step_of(c: Connection, slot: Slot, row: Row, asked: usize, time: u64) -> ReadStep
@@ -87,11 +75,7 @@ fn read_row(
     let config = c.config;
     if handlers::read::is_shut(c.ended, config.read_after_close) {
         let answer = handlers::read::nothing_read(slot);
-        return Done {
-            connection: c,
-            answer,
-            read: 0,
-        };
+        return connection::answered(c, answer);
     }
     let step = step_of(c, slot, row, out.len(), time);
     take(c, table, links, pool, slot, row, step, out)
@@ -135,7 +119,7 @@ pub fn read(
     ensures { λ r. ⌜ Promised (sized c (length (now (table .entry))) (length (now (links .entry))) (length (now (pool .entry))) (length (now (sent .entry)))) c (now (table .entry)) (now (links .entry)) (now (pool .entry)) (read time (slot .0) (length (now (out .entry)))) r (now (table .exit)) (now (links .exit)) (now (pool .entry)) ⌝ }
     ensures { λ r. ⌜ Outputs (sized c (length (now (table .entry))) (length (now (links .entry))) (length (now (pool .entry))) (length (now (sent .entry)))) c (now (table .entry)) (now (links .entry)) (now (pool .entry)) time (slot .0) (now (out .entry)) (now (sent .entry)) r (now (out .exit)) (now (sent .exit)) ⌝ }
 {
-    let fit = sized(c, table.len(), links.len(), pool.len(), sent.len());
+    let fit = connection::sized(c, table.len(), links.len(), pool.len(), sent.len());
     let done = read_call(c, table, links, pool, slot, out, time, fit);
     let answer = done.answer;
     let frame = answer.sent;

@@ -14,13 +14,14 @@ use Rattle.rules.specs.Ending.{Result, refuse}
 use Rattle.rules.specs.Step.{Call, step, timed, holding}
 use Rattle.rules.specs.Step as rules
 use Rattle.rules.specs.declared.Reply.the-variants as reply
-use Rattle.memory.proofs.Laws.{sized-fits, entry-beyond}
-use Rattle.memory.specs.Counts.{fits}
+use Rattle.memory.proofs.Laws.{sized-table, sized-links, sized-fits, entry-beyond}
+use Rattle.memory.specs.Counts.{tableFits, fits}
 use Rattle.connection.specs.Abstract.{absOf, Valid}
+use Rattle.connection.specs.Promises as connection
 use Rattle.connection.specs.Promises.{Promised, Follows, sentAfter, outAfter}
 use Rattle.connection.specs.declared.Connection.{Connection}
 use Rattle.connection.specs.declared.Done.{Done}
-use Rattle.calls.specs.Given.{tableSized, sentSized}
+use Rattle.calls.specs.Given.{sentSized}
 use Rattle.dropping.specs.Given as dropping
 use Rattle.frames.specs.Handles as frames
 use Rattle.rules.specs.Calls.{readRules, writeRules, closeRules, dropRules}
@@ -117,21 +118,21 @@ module _ (c : Connection) (t l p sent : List ℕ) where
     headless n f = sym (ap (λ (h : Sent). sentAfter h sent) (f .says .sent ∙ n .bare))
 
   module _ (v : Valid c t l p) where
-    table-right : tableSized c (length t) ≡ true
-    table-right = eq-eqb _ _ (v .memory .sized .table)
+    table-right : tableFits (c .memory .slots) (length t) ≡ true
+    table-right = sized-table (c .memory) t l p (v .memory .sized)
 
     module _ (w : length sent ≡ 12) where
       sent-right : sentSized c (length t) (length sent) ≡ true
       sent-right = rw table-right (eq-eqb _ _ w)
 
-      frame-right : (head : ℕ) → head ≡ 12 → frames.sized c (length t) (length l) (length p) (length sent) head ≡ true
-      frame-right head h = rw (sized-fits (c .memory) t l p (v .memory .sized), eq-eqb _ _ w) (eq-eqb _ _ h)
-
       drop-right : dropping.sized c (length t) (length l) (length sent) ≡ true
-      drop-right = rw (eq-eqb _ _ (v .memory .sized .table), eq-eqb _ _ (v .memory .sized .links)) (eq-eqb _ _ w)
+      drop-right = rw (sized-links (c .memory) t l p (v .memory .sized)) (eq-eqb _ _ w)
 
-      read-right : reading.sized c (length t) (length l) (length p) (length sent) ≡ true
-      read-right = rw (sized-fits (c .memory) t l p (v .memory .sized)) (eq-eqb _ _ w)
+      all-right : connection.sized c (length t) (length l) (length p) (length sent) ≡ true
+      all-right = rw (sized-fits (c .memory) t l p (v .memory .sized)) (eq-eqb _ _ w)
+
+      frame-right : (head : ℕ) → head ≡ 12 → frames.sized c (length t) (length l) (length p) (length sent) head ≡ true
+      frame-right head h = rw all-right (eq-eqb _ _ h)
 
     far : (i : ℕ) → 1024 ≤ i → entry (absOf c t l p .slots) i ≡ vacant
     far i h = entry-beyond (c .memory) t l p (v .memory) i (omega (arith, v .memory .sized .most))
@@ -200,14 +201,14 @@ module _ (c : Connection) (t l p sent : List ℕ) where
 
   module _ (s : List ℕ) (e : Event) (d : Done) (t′ l′ p′ bytes′ : List ℕ) where
     pub open-applies : (now next : ℕ) → e ≡ event.Open now next
-        → Promised (fits (c .memory) (length t) (length l) (length p)) c t l p (rules.open-stream now) d t′ l′ p′ → Applies c t l p sent s e d t′ l′ p′ sent bytes′
+        → Promised (fits (c .memory .slots) (c .memory .pool) (length t) (length l) (length p)) c t l p (rules.open-stream now) d t′ l′ p′ → Applies c t l p sent s e d t′ l′ p′ sent bytes′
     open-applies now next q k =
         let x = rules.open-stream now in
         made-as s e d t′ l′ p′ sent bytes′ x x next _ (ap (foundIn s) q) (λ v. refl) (λ v w. sized-fits (c .memory) t l p (v .memory .sized))
         (open-silent (absOf c t l p) now) (headless x d t′ l′ p′ sent bytes′ (open-headless (absOf c t l p) now)) k
 
     pub gone-applies : (now next : ℕ) → e ≡ event.Gone now next
-        → Promised (tableSized c (length t)) c t l p (rules.gone now) d t′ l′ p′ → Applies c t l p sent s e d t′ l′ p′ sent bytes′
+        → Promised (tableFits (c .memory .slots) (length t)) c t l p (rules.gone now) d t′ l′ p′ → Applies c t l p sent s e d t′ l′ p′ sent bytes′
     gone-applies now next q k =
         let x = rules.gone now in
         made-as s e d t′ l′ p′ sent bytes′ x x next _ (ap (foundIn s) q) (λ v. refl) (λ v w. table-right v)
@@ -226,19 +227,19 @@ module _ (c : Connection) (t l p sent : List ℕ) where
         ∙ slots-same v now slot (λ i. readRules (absOf c t l p) i (entry (absOf c t l p .slots) i) count now)
 
     pub read-applies : (now slot count next : ℕ) → e ≡ event.Read now slot count next → count ≤ length bytes
-        → Promised (reading.sized c (length t) (length l) (length p) (length sent)) c t l p (rules.read now (slotOf slot) (length (take count bytes))) d t′ l′ p
-        → reading.Outputs (reading.sized c (length t) (length l) (length p) (length sent)) c t l p now (slotOf slot) (take count bytes) sent d out′ sent′
+        → Promised (connection.sized c (length t) (length l) (length p) (length sent)) c t l p (rules.read now (slotOf slot) (length (take count bytes))) d t′ l′ p
+        → reading.Outputs (connection.sized c (length t) (length l) (length p) (length sent)) c t l p now (slotOf slot) (take count bytes) sent d out′ sent′
         → Applies c t l p sent s e d t′ l′ p sent′ (out′ ++ drop count bytes)
     read-applies now slot count next q room k o =
         made s e (rules.read now slot count) next d t′ l′ p sent′ (out′ ++ drop count bytes) (ap (foundIn s) q)
         (λ v w.
-        let f = k .steps (read-right v w) v in
+        let f = k .steps (all-right v w) v in
         let same = asked-same now slot count room v in
         record {
           follows = subst (λ (r : Result). Follows c t l p r d t′ l′ p) same f;
           header = o .header;
           bytes =
               ap (λ (n : ℕ). take n (out′ ++ drop count bytes)) (f .read)
-              ∙ front _ (take count bytes) (drop count bytes) (o .bytes (read-right v w) v)
+              ∙ front _ (take count bytes) (drop count bytes) (o .bytes (all-right v w) v)
               ∙ ap (λ (r : Result). r .outcome .bytes) same;
         })

@@ -1,6 +1,6 @@
 -- A run, event by event: what was reached, and what is left of the definition's run. Assumes nothing.
 use mathlib.Core.Path.{_≡_, refl, sym, ap, subst, _∙_}
-use mathlib.Core.Bool.{Bool, true, false, cond}
+use mathlib.Core.Bool.{Bool, true, false}
 use mathlib.Core.List.{List, [], _++_, append-assoc, append-nil}
 use Prim.Native.Nat.{ℕ, suc, _+_, _-_, _≤_, _<_}
 use native.Mathlib.Nat.{add-zero}
@@ -11,6 +11,7 @@ use borrow.Author.Tests.{eqb-true}
 use lib.Seq.{sets}
 use Rattle.rules.proofs.Lists.{both}
 use Rattle.connection.specs.Abstract.{absOf, Valid}
+use Rattle.connection.specs.Promises as connection
 use Rattle.connection.specs.declared.Connection.{Connection}
 use Rattle.lines.proofs.Stored.{sets-then}
 use Rattle.memory.specs.Counts.{fits}
@@ -199,6 +200,6 @@ module _ (sz : Bool) (c : Connection) (t l p sent bytes s o : List ℕ) (place :
 -- the right sizes
 pub sizes : (c : Connection) (t l p sent bytes : ℕ) → sized c t l p sent bytes ≡ true → (sent ≡ 12) × (bytes ≡ 16384)
 sizes c t l p sent bytes e =
-    let r = both (fits (c .memory) t l p) (cond (eqb sent 12) (eqb bytes 16384) false) e .1 in
-    let q = both (eqb sent 12) (eqb bytes 16384) r in
-    (eqb-true sent 12 (q .0), eqb-true bytes 16384 (q .1))
+    let q = both (connection.sized c t l p sent) (eqb bytes 16384) e in
+    let r = both (fits (c .memory .slots) (c .memory .pool) t l p) (eqb sent 12) (q .0) in
+    (eqb-true sent 12 (r .1), eqb-true bytes 16384 (q .1))

@@ -6,8 +6,8 @@ use Prim.Native.Nat.{ℕ, _+_, _≤_}
 use lib.Dec.{ltb, eqb}
 use lib.ListN.{length, take}
 use Rattle.rules.specs.Step.{Call, step}
-use Rattle.memory.specs.Counts.{fits}
 use Rattle.connection.specs.Abstract.{absOf, Valid}
+use Rattle.connection.specs.Promises as connection
 use Rattle.connection.specs.Promises.{Follows, sentAfter}
 use Rattle.connection.specs.declared.Connection.{Connection}
 use Rattle.connection.specs.declared.Done.{Done}
@@ -56,6 +56,6 @@ Carried (Gone now next) = ⊥
 Carried Short = Unit {0}
 Carried Bad = Unit {0}
 
--- "a lent table, pool or header of the wrong size", and room for 16,384 bytes read
+-- what every call tests of what is lent, and room for 16,384 bytes read
 abbrev pub sized : Connection → ℕ → ℕ → ℕ → ℕ → ℕ → Bool
-sized c t l p sent bytes = cond (fits (c .memory) t l p) (cond (eqb sent 12) (eqb bytes 16384) false) false
+sized c t l p sent bytes = cond (connection.sized c t l p sent) (eqb bytes 16384) false

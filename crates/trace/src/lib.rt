@@ -17,6 +17,7 @@ ghost use Rattle.trace.specs.Turns.{nextOf, headerSize, shownLine, Turns
 use connection::Connection;
 use connection::Done;
 use events::Event;
+use frame::header::HEADER_SIZE;
 use lines::LONGEST_LINE;
 use lines::Put;
 use lines::Shown;
@@ -59,8 +60,6 @@ enum Turned {
     Stop(Stop),
 }
 
-const HEADER: usize = 12;
-
 // The most bytes that an event reads.
 const SCRATCH: usize = 16384;
 
@@ -68,11 +67,8 @@ const SCRATCH: usize = 16384;
 fn sized(c: Connection, table: usize, links: usize, pool: usize, sent: usize, bytes: usize) -> bool
     ensures { λ r. ⌜ r ≡ sized c table links pool sent bytes ⌝ }
 {
-    let memory = c.memory;
-    if memory.fits(table, links, pool) {
-        if sent == HEADER {
-            return bytes == SCRATCH;
-        }
+    if connection::sized(c, table, links, pool, sent) {
+        return bytes == SCRATCH;
     }
     false
 }
@@ -133,7 +129,7 @@ fn header_size(sent: Sent) -> usize
     ensures { λ r. ⌜ r ≤ 12 ⌝ }
 {
     match sent {
-        Sent::Frame(_) => HEADER,
+        Sent::Frame(_) => HEADER_SIZE,
         Sent::Nothing => 0,
     }
 }

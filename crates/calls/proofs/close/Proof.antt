@@ -69,7 +69,7 @@ returns-3 c =
       λ l p. following (a .c) (a .table .now) l p _ (close (a .time) (a .slot .0)) (sym (c .before .before .before .before .before .before .before .before .before .before .before .before .before .before .before .before .sent-sized .ensures) ∙ not-false _ (c .before .before .before .before .before .before .before .before .before .before .before .before .before .before .before .if1 .left)) (e .result) (e .last .1 .0) l p
           (rw (k .0 .answer))
           (λ v. close-follows (a .c) (a .table .now) l p v (a .slot .0) (a .time) _ (sym (c .before .before .before .before .before .before .before .before .before .before .before .before .held-row .ensures) ∙ c .before .before .before .before .before .before .before .before .before .before .found2 .given .1) (e .result) (e .last .1 .0) (k .0)),
-      record { header = rw (k .0 .answer) (k .1); only = rw (k .0 .answer) (λ w. never w) },
+      record { header = rw (k .0 .answer) (k .1); silent = rw (k .0 .answer) (λ w. never w) },
     )
 
 pub close-spec : {M : Type 1} → statement M

@@ -9,16 +9,16 @@ use Rattle.calls.proofs.Locals.{gone-shut, gone-open}
 use Rattle.calls.proofs.peer_gone.Statement.{statement}
 use Rattle.calls.proofs.peer_gone.Tie as tie
 
-table-sized-requires : tie.Need-table-sized-requires
-table-sized-requires c κs = search needs
+table-fits-requires : tie.Need-table-fits-requires
+table-fits-requires c κs = search needs
 
 refuse-requires : tie.Need-refuse-requires
 refuse-requires c κs = search needs
 
 returns : tie.Need-returns
 returns c l p =
-    let a = c .before .before .before .before .args in
-    rw (c .refuse .ensures) (wrong-size (a .c) (a .table .now) l p _ (gone (a .time)) (sym (c .before .before .table-sized .ensures) ∙ not-true _ (c .before .if1 .taken)))
+    let a = c .before .before .before .before .before .args in
+    rw (c .refuse .ensures) (wrong-size (a .c) (a .table .now) l p _ (gone (a .time)) (sym (c .before .before .table-fits .ensures) ∙ not-true _ (c .before .if1 .taken)))
 
 judge-requires : tie.Need-judge-requires
 judge-requires c κs = search needs
@@ -37,8 +37,8 @@ end-requires c κs = search needs
 
 returns-2 : tie.Need-returns-2
 returns-2 c l p =
-    let a = c .before .before .before .before .before .before .before .before .args in
-    rw (c .refuse2 .ensures) (refusing (a .c) (a .table .now) l p _ (gone (a .time)) (sym (c .before .before .before .before .before .before .table-sized .ensures) ∙ not-false _ (c .before .before .before .before .before .if1 .left)) _
+    let a = c .before .before .before .before .before .before .before .before .before .args in
+    rw (c .refuse2 .ensures) (refusing (a .c) (a .table .now) l p _ (gone (a .time)) (sym (c .before .before .before .before .before .before .table-fits .ensures) ∙ not-false _ (c .before .before .before .before .before .if1 .left)) _
     (λ v. gone-shut (absOf (a .c) (a .table .now) l p) (a .time) _ (sym (c .before .before .before .before .judge .ensures) ∙ c .before .before .gate .given .1)))
 
 same-length : tie.Need-same-length
@@ -46,9 +46,9 @@ same-length c = search needs
 
 returns-3 : tie.Need-returns-3
 returns-3 c l p =
-    let a = c .before .before .before .before .before .before .before .before .before .before .args in
+    let a = c .before .before .before .before .before .before .before .before .before .before .before .args in
     let e = c .before .before .end in
-    following (a .c) (a .table .now) l p _ (gone (a .time)) (sym (c .before .before .before .before .before .before .before .before .table-sized .ensures) ∙ not-false _ (c .before .before .before .before .before .before .before .if1 .left)) (e .result) (e .last .1 .0) l p
+    following (a .c) (a .table .now) l p _ (gone (a .time)) (sym (c .before .before .before .before .before .before .before .before .table-fits .ensures) ∙ not-false _ (c .before .before .before .before .before .before .before .if1 .left)) (e .result) (e .last .1 .0) l p
     (rw (e .ensures .answer))
     (λ v. rw (gone-open (absOf (a .c) (a .table .now) l p) (a .time) (sym (c .before .before .before .before .before .before .judge .ensures) ∙ c .before .before .before .before .enum-told .given .1)) (e .ensures .ends l p v))
 
@@ -56,7 +56,7 @@ pub peer-gone-spec : {M : Type 1} → statement M
 peer-gone-spec =
     tie.close
     (tie.spec
-    table-sized-requires
+    table-fits-requires
     refuse-requires
     returns
     judge-requires

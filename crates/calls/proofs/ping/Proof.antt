@@ -10,8 +10,8 @@ on-tick-requires c κs = search needs
 put-requires : tie.Need-put-requires
 put-requires c κs = search needs
 
-with-rtt-requires : tie.Need-with-rtt-requires
-with-rtt-requires c κs = search needs
+pinged-requires : tie.Need-pinged-requires
+pinged-requires c κs = search needs
 
 same-length : tie.Need-same-length
 same-length c = search needs
@@ -19,7 +19,7 @@ same-length c = search needs
 returns : tie.Need-returns
 returns c =
     let t = c .before .before .before .before .before .before .on-tick in
-    rw (c .with-rtt .ensures, ← t .ensures) (refl, c .before .before .before .put .ensures)
+    rw (c .pinged .ensures, ← t .ensures) (refl, c .before .before .before .put .ensures)
 
 pub ping-spec : {M : Type 1} → statement M
-ping-spec = tie.close (tie.spec on-tick-requires put-requires with-rtt-requires same-length returns)
+ping-spec = tie.close (tie.spec on-tick-requires put-requires pinged-requires same-length returns)

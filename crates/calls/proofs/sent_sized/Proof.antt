@@ -4,14 +4,14 @@ use borrow.Author.Needs.{needs}
 use Rattle.calls.proofs.sent_sized.Statement.{statement}
 use Rattle.calls.proofs.sent_sized.Tie as tie
 
-table-sized-requires : tie.Need-table-sized-requires
-table-sized-requires c κs = search needs
+table-fits-requires : tie.Need-table-fits-requires
+table-fits-requires c κs = search needs
 
 returns : tie.Need-returns
-returns c = rw (sym (c .before .table-sized .ensures) ∙ c .if1 .taken)
+returns c = rw (sym (c .before .table-fits .ensures) ∙ c .if1 .taken)
 
 returns-2 : tie.Need-returns-2
-returns-2 c = rw (sym (c .before .table-sized .ensures) ∙ c .if1 .left)
+returns-2 c = rw (sym (c .before .table-fits .ensures) ∙ c .if1 .left)
 
 pub sent-sized-spec : {M : Type 1} → statement M
-sent-sized-spec = tie.close (tie.spec table-sized-requires returns returns-2)
+sent-sized-spec = tie.close (tie.spec table-fits-requires returns returns-2)

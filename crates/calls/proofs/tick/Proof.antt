@@ -60,7 +60,7 @@ returns-3 c =
       λ l p. following (a .c) (a .table .now) l p _ (tick (a .time)) (sym (c .before .before .before .before .before .before .before .before .sent-sized .ensures) ∙ not-false _ (c .before .before .before .before .before .before .before .if1 .left)) _ (a .table .now) l p
           (rw (tick-done (a .c .rtt) (a .time)))
           (λ v. rw (tick-open (absOf (a .c) (a .table .now) l p) (a .time) (sym (c .before .before .before .before .before .before .judge .ensures) ∙ c .before .before .before .before .enum-told .given .1)) (tick-follows (a .c) (a .table .now) l p v (a .time))),
-      record { header = e .ensures .1; only = λ w. never (sym (ap mayGive (tick-done (a .c .rtt) (a .time))) ∙ w) },
+      record { header = e .ensures .1; silent = λ w. never (sym (ap mayGive (tick-done (a .c .rtt) (a .time))) ∙ w) },
     )
 
 pub tick-spec : {M : Type 1} → statement M

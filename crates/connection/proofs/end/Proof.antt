@@ -11,18 +11,21 @@ end-all-requires c κs = search needs
 bare-requires : tie.Need-bare-requires
 bare-requires c κs = search needs
 
+answered-requires : tie.Need-answered-requires
+answered-requires c κs = search needs
+
 same-length : tie.Need-same-length
 same-length c = search needs
 
 returns : tie.Need-returns
 returns c =
-    let a = c .before .before .before .before .before .before .before .before .args in
-    let e = c .before .before .before .end-all in
-    rw (c .bare .ensures) (record {
+    let a = c .before .before .before .before .before .before .before .before .before .args in
+    let e = c .before .before .before .before .end-all in
+    rw (c .answered .ensures, c .before .bare .ensures) (record {
       answer = refl;
       read = refl;
       ends = λ l p v. end-follows (a .c) (a .table .now) l p v (e .result) (e .last .1 .0) (e .ensures l p (v .memory)) (a .reply);
     })
 
 pub end-spec : {M : Type 1} → statement M
-end-spec = tie.close (tie.spec end-all-requires bare-requires same-length returns)
+end-spec = tie.close (tie.spec end-all-requires bare-requires answered-requires same-length returns)

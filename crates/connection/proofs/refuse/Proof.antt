@@ -6,8 +6,11 @@ use Rattle.connection.proofs.refuse.Tie as tie
 bare-requires : tie.Need-bare-requires
 bare-requires c κs = search needs
 
+answered-requires : tie.Need-answered-requires
+answered-requires c κs = search needs
+
 returns : tie.Need-returns
-returns c = rw (c .bare .ensures)
+returns c = rw (c .answered .ensures, c .before .bare .ensures)
 
 pub refuse-spec : {M : Type 1} → statement M
-refuse-spec = tie.close (tie.spec bare-requires returns)
+refuse-spec = tie.close (tie.spec bare-requires answered-requires returns)

@@ -9,8 +9,11 @@ with-growth-requires c κs = search needs
 with-memory-requires : tie.Need-with-memory-requires
 with-memory-requires c κs = search needs
 
+answered-requires : tie.Need-answered-requires
+answered-requires c κs = search needs
+
 returns : tie.Need-returns
-returns c = rw (c .with-memory .ensures, c .before .with-growth .ensures)
+returns c = rw (c .answered .ensures, c .before .with-memory .ensures, c .before .before .with-growth .ensures)
 
 pub released-spec : {M : Type 1} → statement M
-released-spec = tie.close (tie.spec with-growth-requires with-memory-requires returns)
+released-spec = tie.close (tie.spec with-growth-requires with-memory-requires answered-requires returns)

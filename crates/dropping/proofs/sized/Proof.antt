@@ -1,24 +1,16 @@
--- `dropping::sized` meets its contract: each return is what the definition gives by the tests that led there. Assumes nothing.
-use mathlib.Core.Path.{sym, _∙_}
-use borrow.Author.Tests.{eq-eqb, ne-eqb}
+-- `dropping::sized` meets its contract. Assumes nothing.
 use borrow.Author.Needs.{needs}
 use Rattle.dropping.proofs.sized.Statement.{statement}
 use Rattle.dropping.proofs.sized.Tie as tie
 
-size-requires : tie.Need-size-requires
-size-requires c κs = search needs
-
-blocks-requires : tie.Need-blocks-requires
-blocks-requires c κs = search needs
+links-fit-requires : tie.Need-links-fit-requires
+links-fit-requires c κs = search needs
 
 returns : tie.Need-returns
-returns c = rw (eq-eqb _ _ (c .before .before .if1 .taken ∙ c .before .before .before .size .ensures), eq-eqb _ _ (c .if2 .taken ∙ c .before .blocks2 .ensures))
+returns c = rw (← c .before .links-fit .ensures, c .if1 .taken)
 
 returns-2 : tie.Need-returns-2
-returns-2 c = rw (eq-eqb _ _ (c .before .before .if1 .taken ∙ c .before .before .before .size .ensures), ne-eqb _ _ (λ e. c .if2 .left (e ∙ sym (c .before .blocks2 .ensures))))
-
-returns-3 : tie.Need-returns-3
-returns-3 c = rw (ne-eqb _ _ (λ e. c .if1 .left (e ∙ sym (c .before .size .ensures))))
+returns-2 c = rw (← c .before .links-fit .ensures, c .if1 .left)
 
 pub sized-spec : {M : Type 1} → statement M
-sized-spec = tie.close (tie.spec size-requires blocks-requires returns returns-2 returns-3)
+sized-spec = tie.close (tie.spec links-fit-requires returns returns-2)

@@ -18,7 +18,7 @@ returns c =
     let a = c .before .before .before .before .before .before .before .before .before .args in
     rw (c .refuse .ensures) (
       wrong-promised (a .c) (a .table .now) (a .links .now) (a .pool .now) (a .head .now) (a .body .now) (a .time) (length (a .sent .now)) (sym (c .before .before .sized .ensures) ∙ not-true _ (c .before .if1 .taken)),
-      record { header = refl; only = λ e. (refl, refl) },
+      record { header = refl; silent = λ e. (refl, refl) },
     )
 
 decode-requires : tie.Need-decode-requires
@@ -48,7 +48,7 @@ returns-2 c =
     let w = c .before .before .before .before .before .before .before .before .before .before .before .on-decoded in
     let h = rw (c .before .before .before .before .before .before .before .before .before .before .before .before .before .before .before .decode .ensures) at (w .ensures) in (
       right-promised (a .c) (a .table .now) (a .links .now) (a .pool .now) (a .head .now) (a .body .now) (a .time) (length (a .sent .now)) (sym (c .before .before .before .before .before .before .before .before .before .before .before .before .before .before .before .before .before .sized .ensures) ∙ not-false _ (c .before .before .before .before .before .before .before .before .before .before .before .before .before .before .before .before .if1 .left)) (w .result) (w .last .1 .0) (w .last .1 .1 .0) (w .last .1 .1 .1 .0) h,
-      record { header = c .before .before .put .ensures; only = h .silent },
+      record { header = c .before .before .put .ensures; silent = h .silent },
     )
 
 pub on-frame-spec : {M : Type 1} → statement M

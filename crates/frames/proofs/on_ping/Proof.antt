@@ -13,14 +13,14 @@ is-found-requires c κs = search needs
 on-ping-requires : tie.Need-on-ping-requires
 on-ping-requires c κs = search needs
 
-with-rtt-requires : tie.Need-with-rtt-requires
-with-rtt-requires c κs = search needs
+pinged-requires : tie.Need-pinged-requires
+pinged-requires c κs = search needs
 
 returns : tie.Need-returns
 returns c =
-    let a = c .before .before .before .before .before .before .before .before .before .args in
-    let f = c .before .before .before .before .find in
-    rw (c .before .with-rtt .ensures, c .before .before .on-ping .ensures, c .before .before .before .is-found .ensures) (ping-handles (a .c) (a .table .now) (a .header) (a .time) (f .result) (f .ensures))
+    let a = c .before .before .before .before .before .before .before .before .args in
+    let f = c .before .before .before .find in
+    rw (c .pinged .ensures, c .before .on-ping .ensures, c .before .before .is-found .ensures) (ping-handles (a .c) (a .table .now) (a .header) (a .time) (f .result) (f .ensures))
 
 pub on-ping-spec : {M : Type 1} → statement M
-on-ping-spec = tie.close (tie.spec find-requires is-found-requires on-ping-requires with-rtt-requires returns)
+on-ping-spec = tie.close (tie.spec find-requires is-found-requires on-ping-requires pinged-requires returns)

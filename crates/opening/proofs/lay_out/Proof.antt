@@ -6,13 +6,13 @@ use mathlib.Core.Path.{_≡_, sym, _∙_}
 use Rattle.opening.proofs.lay_out.Statement.{statement}
 use Rattle.opening.proofs.lay_out.Tie as tie
 
-sized-requires : tie.Need-sized-requires
-sized-requires c κs = search needs
+fits-requires : tie.Need-fits-requires
+fits-requires c κs = search needs
 
 returns : tie.Need-returns
 returns c =
     let a = c .before .before .before .before .before .args in
-    wrong-size (a .config) (a .table .now) (a .links .now) (a .pool .now) (sym (c .before .sized .ensures) ∙ not-true _ (c .if1 .taken))
+    wrong-size (a .config) (a .table .now) (a .links .now) (a .pool .now) (sym (c .before .fits2 .ensures) ∙ not-true _ (c .if1 .taken))
 
 lay-out-requires : tie.Need-lay-out-requires
 lay-out-requires c κs = search needs
@@ -32,13 +32,13 @@ returns-2 c =
     let m = c .before .before .before .before .before .lay-out in
     rw (c .started .ensures)
     (right-size (a .config) (a .table .now) (a .links .now) (a .pool .now) (m .result) (m .last .0) (m .last .1 .0) (m .kept .0) (m .kept .1 .0)
-    (sym (c .before .before .before .before .before .before .before .before .before .sized .ensures) ∙ not-false _ (c .before .before .before .before .before .before .before .before .if1 .left)) (m .ensures))
+    (sym (c .before .before .before .before .before .before .before .before .before .fits2 .ensures) ∙ not-false _ (c .before .before .before .before .before .before .before .before .if1 .left)) (m .ensures))
 
 pub lay-out-spec : {M : Type 1} → statement M
 lay-out-spec =
     tie.close
     (tie.spec
-    sized-requires
+    fits-requires
     returns
     lay-out-requires
     started-requires

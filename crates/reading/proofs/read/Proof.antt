@@ -1,7 +1,7 @@
 -- `reading::read` meets its contract: the parts' promises, and the header put. Assumes nothing.
 use borrow.Author.Needs.{needs}
 use lib.ListN.{length}
-use Rattle.reading.specs.Promises.{sized}
+use Rattle.connection.specs.Promises.{sized}
 use Rattle.reading.proofs.Calls.{promised, outputs}
 use Rattle.reading.proofs.read.Statement.{statement}
 use Rattle.reading.proofs.read.Tie as tie

@@ -18,11 +18,14 @@ is-shut-requires c κs = search needs
 nothing-read-requires : tie.Need-nothing-read-requires
 nothing-read-requires c κs = search needs
 
+answered-requires : tie.Need-answered-requires
+answered-requires c κs = search needs
+
 returns : tie.Need-returns
 returns c h =
-    let a = c .before .before .before .before .before .before .before .before .args in
-    rw (c .nothing-read .ensures)
-    (shut-reads (a .c) (a .table .now) (a .links .now) (a .pool .now) (a .out .now) (a .slot .0) (a .time) (sym (c .before .before .is-shut .ensures) ∙ c .before .if1 .taken))
+    let a = c .before .before .before .before .before .before .before .before .before .args in
+    rw (c .answered .ensures, c .before .nothing-read .ensures)
+    (shut-reads (a .c) (a .table .now) (a .links .now) (a .pool .now) (a .out .now) (a .slot .0) (a .time) (sym (c .before .before .before .is-shut .ensures) ∙ c .before .before .if1 .taken))
 
 step-of-requires : tie.Need-step-of-requires
 step-of-requires c κs = search needs
@@ -64,6 +67,7 @@ read-row-spec =
     (tie.spec
     is-shut-requires
     nothing-read-requires
+    answered-requires
     returns
     step-of-requires
     take-requires

@@ -1,7 +1,7 @@
--- `reading::sized` meets its contract: each return is what the definition gives by the tests that led there. Assumes nothing.
+-- `connection::sized` meets its contract: each return is what the definition gives by the tests that led there. Assumes nothing.
 use borrow.Author.Needs.{needs}
-use Rattle.reading.proofs.sized.Statement.{statement}
-use Rattle.reading.proofs.sized.Tie as tie
+use Rattle.connection.proofs.sized.Statement.{statement}
+use Rattle.connection.proofs.sized.Tie as tie
 
 fits-requires : tie.Need-fits-requires
 fits-requires c κs = search needs
