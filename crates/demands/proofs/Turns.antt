@@ -1,7 +1,7 @@
 -- A call that waits leaves its mark and gives no value, no other sets one, a frame wakes whom it should, and the next id goes by 2
 -- where an open gives one. Assumes nothing.
 use mathlib.Core.Path.{_≡_, refl, sym, ap, _∙_, subst}
-use mathlib.Core.Logic.{_⊎_, inl, inr}
+use mathlib.Core.Logic.{_⊎_, inl, inr, _≢_}
 use mathlib.Core.Bool.{Bool, true, false, cond}
 use mathlib.Core.List.{List, [], _∷_, _++_}
 use Prim.Native.Nat.{ℕ, _+_, _-_, _≤_, min}
@@ -40,7 +40,7 @@ use Rattle.rules.proofs.Lists.{Says, first-says}
 use Rattle.demands.specs.Demands.{and}
 use Rattle.demands.specs.History.{isDone}
 use Rattle.demands.specs.Theorems.{Gave, endedForReads, isOpen, idOf, ids, byTwo}
-use Rattle.demands.specs.Waits.{Sets, Waiting, Opens, Reads, Writes, IsWoken, WaitsAreSet, OnlyWaitsSet, AcksWakeTheOpen, wakesReader, wakesWriter, TakenWakes}
+use Rattle.demands.specs.Waits.{Sets, Waiting, Opens, Reads, Writes, IsWoken, WaitsAreSet, OnlyWaitsSet, AcksWakeTheOpen, wakesReader, wakesWriter, TakenWakes, WakesNone, OnlyTakenWakes}
 use Rattle.demands.proofs.Lists.{split, true-not-false, at-set}
 use Rattle.demands.proofs.Invariant.{Inv, in-range}
 use Rattle.demands.proofs.Steps.{sound, reached}
@@ -312,6 +312,22 @@ taken-wakes c m now i head body h d f =
     subst (λ q. StreamWoken c h i (onDecoded q c body now)) (sym d)
     (split (StreamWoken c h i) (ltb lastTime now) (λ t n. not-done _ refl n) (λ t.
     split (StreamWoken c h i) (c .ended) (λ e n. not-done _ refl n) (λ live. headers c (reached m) live h body now .woken i f)))
+
+abbrev Unwoken : Result → Type 0
+Unwoken r = r .outcome .reply ≢ reply.Done → WakesNone (r .outcome .wakes)
+
+pub only-taken-wakes : OnlyTakenWakes
+unfolding step onDecoded
+only-taken-wakes c m now head body = go (decoded head)
+  where
+    tested : (r : Result) → (c .ended ≡ false → Unwoken r) → Unwoken (rules.timed c now (rules.live c r))
+    tested r f = split Unwoken (ltb lastTime now) (λ t n. (refl, refl)) (λ t. split Unwoken (c .ended) (λ e n. (refl, refl)) f)
+
+    go : (q : Decoded) → Unwoken (onDecoded q c body now)
+    go found.Size = λ n. (refl, refl)
+    go (found.Version v) = tested _ (λ l n. (refl, refl))
+    go (found.Type t) = tested _ (λ l n. (refl, refl))
+    go (found.Header h) = tested _ (λ l. headers c (reached m) l h body now .unwoken)
 
 -- ---- ids
 

@@ -1,6 +1,6 @@
 -- Whom a frame wakes, that it makes nobody wait, and that it leaves the next id. Assumes nothing.
 use mathlib.Core.Path.{_≡_, refl, sym, ap, _∙_, subst}
-use mathlib.Core.Logic.{_⊎_, inl, inr}
+use mathlib.Core.Logic.{_⊎_, inl, inr, _≢_}
 use mathlib.Core.Bool.{Bool, true, false, cond}
 use mathlib.Core.List.{List, []}
 use Prim.Native.Nat.{ℕ, _+_, _<_}
@@ -30,7 +30,7 @@ use Rattle.rules.specs.Ending.{Result, gives, refuse, endEntry, ended}
 use Rattle.rules.specs.Frames.{Acked, ackStep, answer, whose, frameWakes, quiet, goAway, onReset, resetEntry, newEntry, makeAt, make, isKnown, synRules, synData, openedBy, synUpdate, takenEntry, takeAt, knownData, knownUpdate, dataRules, updateRules, unacked, pongRules, pingRules, answersPing, frameRules, bodyLength, onHeader}
 use Rattle.rules.proofs.Lists.{Says, first-says}
 use Rattle.demands.specs.History.{isDone}
-use Rattle.demands.specs.Waits.{IsWoken, Fares, hasAckStep, wakesReader, wakesWriter}
+use Rattle.demands.specs.Waits.{IsWoken, Fares, hasAckStep, wakesReader, wakesWriter, WakesNone}
 use Rattle.demands.proofs.Lists.{split, true-not-false, at-set}
 use Rattle.demands.proofs.Invariant.{Inv}
 use Rattle.demands.proofs.Sound.{at-end}
@@ -107,10 +107,11 @@ pub record Passes (c : Conn) (a : Acked) (place : Place) (reader writer : Bool) 
   pub opener : leavesAll (r .outcome .reply) ≡ false → (r .after .openWait ≡ a .conn .openWait) × (r .outcome .wakes .opener ≡ a .woke)
   pub woken : (i : ℕ) → place ≡ at i → r .outcome .reply ≡ reply.Done →
       Woken reader writer (entry (c .slots) i .stream) (entry (r .after .slots) i .stream) (r .outcome .wakes .reader) (r .outcome .wakes .writer)
+  pub unwoken : r .outcome .reply ≢ reply.Done → WakesNone (r .outcome .wakes)
 
 module _ (c : Conn) (a : Acked) (place : Place) where
   undone : (reader writer : Bool) (q : Reply) → isWait q ≡ false → isDone q ≡ false → leavesAll q ≡ true → Passes c a place reader writer (refuse c q)
-  undone reader writer q w d l = record { prompt = w; next = refl; unset = none-set (c .slots); mark = inl refl; opener = λ n. true-not-false l n; woken = λ i e n. not-done q d n }
+  undone reader writer q w d l = record { prompt = w; next = refl; unset = none-set (c .slots); mark = inl refl; opener = λ n. true-not-false l n; woken = λ i e n. not-done q d n; unwoken = λ n. (refl, refl) }
 
   -- a frame that is to wake nobody, and leaves all slots
   still : (o : Outcome) (d : Conn) → isWait (o .reply) ≡ false → d .nextId ≡ c .nextId → d .slots ≡ c .slots → d .openWait ≡ a .conn .openWait → o .wakes ≡ frameWakes a quiet → Passes c a place false false (gives o d)
@@ -121,6 +122,7 @@ module _ (c : Conn) (a : Acked) (place : Place) where
     mark = inr e;
     opener = λ l. (e, rw w);
     woken = λ i q r. let t = entry (c .slots) i .stream in rw (s, w) (fares-left false (t .reader) refl, fares-left false (t .writer) refl);
+    unwoken = λ n. rw w (refl, refl);
   }
 
 -- ---- Data and WindowUpdate, after an ACK step
@@ -138,10 +140,10 @@ module _ (h : Header) (a : Acked) (reader writer : Bool) where
   Ok place r = Passes (a .before) a place reader writer r
 
   away : (place : Place) → Same h a → (code : ℕ) → Ok place (goAway a code)
-  away place n code = record { prompt = refl; next = n .0; unset = n .1; mark = inr refl; opener = λ l. (refl, refl); woken = λ i e d. not-done _ refl d }
+  away place n code = record { prompt = refl; next = n .0; unset = n .1; mark = inr refl; opener = λ l. (refl, refl); woken = λ i e d. not-done _ refl d; unwoken = λ n. (refl, refl) }
 
-  unknown : (o : Outcome) (d : Conn) → isWait (o .reply) ≡ false → d .nextId ≡ a .before .nextId → NoneSet (a .before .slots) (d .slots) → d .openWait ≡ a .conn .openWait → o .wakes .opener ≡ a .woke → Ok nowhere (gives o d)
-  unknown o d p n u e w = record { prompt = p; next = n; unset = u; mark = inr e; opener = λ l. (e, w); woken = λ i q r. not-at i q }
+  unknown : (o : Outcome) (d : Conn) → o .reply ≡ reply.Done → d .nextId ≡ a .before .nextId → NoneSet (a .before .slots) (d .slots) → d .openWait ≡ a .conn .openWait → o .wakes .opener ≡ a .woke → Ok nowhere (gives o d)
+  unknown o d p n u e w = record { prompt = rw p; next = n; unset = u; mark = inr e; opener = λ l. (e, w); woken = λ i q r. not-at i q; unwoken = λ f. absurd (f p) }
 
   -- a stream in the table that changes
   changes : (i : ℕ) → Acks a (h .«stream_id») (at i) → (w : Wakes) (x : Entry) → Woken reader writer (entry (a .conn .slots) i .stream) (x .stream) (w .reader) (w .writer) →
@@ -157,6 +159,7 @@ module _ (h : Header) (a : Acked) (reader writer : Bool) where
     woken = λ j e d.
         subst (λ n. Woken reader writer (entry (a .before .slots) n .stream) (entry (set (a .conn .slots) i x) n .stream) (w .reader) (w .writer)) (at-is i j e)
         (rw (getD-set-same (a .conn .slots) i x vacant (k .located .0), ← k .waits i .0, ← k .waits i .1) m);
+    unwoken = λ n. absurd (n refl);
   }
 
   -- a reset wakes both
@@ -307,7 +310,7 @@ module _ (c : Conn) (v : Inv c) (live : c .ended ≡ false) (h : Header) (body :
   frames tag.Data = after tag.Data (λ a. dataRules a h body place now) (λ a k. data-rules h a now place k body)
   frames tag.WindowUpdate = after tag.WindowUpdate (λ a. updateRules a h place now) (λ a k. update-rules h a now place k)
   frames tag.Ping = pings
-  frames tag.GoAway = record { prompt = refl; next = refl; unset = end-set c; mark = inr refl; opener = λ l. (refl, refl); woken = λ i e d. not-done _ refl d }
+  frames tag.GoAway = record { prompt = refl; next = refl; unset = end-set c; mark = inr refl; opener = λ l. (refl, refl); woken = λ i e d. not-done _ refl d; unwoken = λ n. (refl, refl) }
 
   pub headers : FrameOk (acked (h .tag) c h place) (h .tag) (onHeader c h body now)
   unfolding onHeader

@@ -1,6 +1,6 @@
 -- "Woken means: cleared and reported if it was waiting. Only this or ending clears a wait." Sentences in quotes are document 01's.
 use mathlib.Core.Path.{_≡_}
-use mathlib.Core.Logic.{_⊎_}
+use mathlib.Core.Logic.{_⊎_, _≢_}
 use mathlib.Core.Bool.{Bool, true, false, cond}
 use mathlib.Core.List.{List}
 use Prim.Native.Nat.{ℕ}
@@ -15,6 +15,7 @@ use Rattle.stream.specs.declared.Stream.{Stream}
 use Rattle.rules.specs.declared.Reply.the-variants as reply
 use Rattle.rules.specs.declared.Value.the-variants as value
 use Rattle.rules.specs.declared.Which.the-variants as which
+use Rattle.rules.specs.declared.Woke.{Woke}
 use Rattle.rules.specs.Replies.{leavesAll}
 use Rattle.rules.specs.Lists.{Place, at, nowhere}
 use Rattle.rules.specs.State.{Conn, entry, find}
@@ -206,3 +207,13 @@ TakenWakes =
     r .outcome .reply ≡ reply.Done →
     Fares (wakesReader (h .tag) h) (before .reader) (after .reader) (r .outcome .wakes .reader)
     × Fares (wakesWriter (h .tag) h) (before .writer) (after .writer) (r .outcome .wakes .writer)
+
+abbrev pub WakesNone : Woke → Type 0
+WakesNone w = (w .reader ≡ false) × (w .writer ≡ false)
+
+-- A frame that is not done, one answered by a GoAway among them, wakes no reader and no writer.
+abbrev pub OnlyTakenWakes : Type 0
+OnlyTakenWakes =
+    (c : Conn) → Reach c → (now : ℕ) (head body : List ℕ) →
+    let o = step c (rules.frame now head body) .outcome in
+    o .reply ≢ reply.Done → WakesNone (o .wakes)

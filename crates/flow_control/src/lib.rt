@@ -4,7 +4,7 @@ pub mod lent;
 ghost use mathlib.Core.Path.{_≡_};
 ghost use Prim.Native.Nat.{_+_, _≤_, min};
 ghost use Rattle.flow_control.specs.Windows.{fresh, due, paceOf, budget, newMaximum, granted, keep, grow, nextWindowUpdate};
-ghost use Rattle.flow_control.specs.Windows.{consumeSend, increaseSend, consumeReceive};
+ghost use Rattle.flow_control.specs.Windows.{withSend, consumeSend, increaseSend, consumeReceive};
 use frame::header::Credit;
 use frame::header::DEFAULT_CREDIT;
 use rtt::RoundTrip;
@@ -211,6 +211,18 @@ impl FlowController {
         }
     }
 
+    // The same windows with another send window.
+    fn with_send(self, send_window: u32) -> Self
+        ensures { λ r. ⌜ r ≡ withSend self «send_window» ⌝ }
+    {
+        FlowController {
+            last_window_update: self.last_window_update,
+            receive_window: self.receive_window,
+            max_receive_window: self.max_receive_window,
+            send_window,
+        }
+    }
+
     fn send_consumed(self, i: u32) -> Settled
         ensures { λ r. ⌜ r ≡ consumeSend self i ⌝ }
     {
@@ -220,12 +232,7 @@ impl FlowController {
                 verdict: Verdict::InvalidWindowUpdate,
             };
         }
-        let flow = FlowController {
-            last_window_update: self.last_window_update,
-            receive_window: self.receive_window,
-            max_receive_window: self.max_receive_window,
-            send_window: self.send_window - i,
-        };
+        let flow = self.with_send(self.send_window - i);
         Settled {
             flow,
             verdict: Verdict::Done,
@@ -241,12 +248,7 @@ impl FlowController {
                 verdict: Verdict::InvalidWindowUpdate,
             };
         }
-        let flow = FlowController {
-            last_window_update: self.last_window_update,
-            receive_window: self.receive_window,
-            max_receive_window: self.max_receive_window,
-            send_window: self.send_window + i.0,
-        };
+        let flow = self.with_send(self.send_window + i.0);
         Settled {
             flow,
             verdict: Verdict::Done,
