@@ -1,6 +1,7 @@
 -- A run, event by event: what was reached, and what is left of the definition's run. Assumes nothing.
 use mathlib.Core.Path.{_≡_, refl, sym, ap, subst, _∙_}
 use mathlib.Core.Bool.{Bool, true, false}
+use mathlib.Core.Logic.{inl, inr}
 use mathlib.Core.List.{List, [], _++_, append-assoc, append-nil}
 use Prim.Native.Nat.{ℕ, suc, _+_, _-_, _≤_, _<_}
 use native.Mathlib.Nat.{add-zero}
@@ -18,7 +19,7 @@ use Rattle.memory.specs.Counts.{fits}
 use Rattle.memory.proofs.Laws.{never}
 use Rattle.trace.specs.Applies.{sized}
 use Rattle.trace.specs.Runs.{Ran, stopped, wrote, runs, resumed}
-use Rattle.trace.specs.Turns.{Halts, Stepped, Goes, RanAs, runsFrom, Bounds, Runs, Reached}
+use Rattle.trace.specs.Turns.{Lacks, Halts, Stepped, Goes, RanAs, runsFrom, Bounds, Runs, Reached}
 use Rattle.trace.specs.declared.Stop.{Stop}
 use Rattle.trace.specs.declared.Stop.the-variants as stop
 use Rattle.trace.specs.declared.Place.{Place}
@@ -88,6 +89,7 @@ module _ (c : Connection) (t l p s o : List ℕ) (place : Place) (allowance : �
     inside = λ h. h;
     written = omega arith;
     room = λ h. h;
+    moved = inl (refl, refl, refl);
   }
 
   pub standing : (sent bytes : List ℕ) → length sent ≡ 12 → length bytes ≡ 16384
@@ -161,6 +163,7 @@ module _ (c : Connection) (t l p s o : List ℕ) (place : Place) (allowance : �
           inside = λ w. k .inside;
           written = omega (arith, x .bounds .written, k .written);
           room = λ w. omega (arith, k .room, x .size);
+          moved = inr (omega (arith, x .bounds .counted), omega (arith, h));
         };
         header = e .header ∙ x .header;
         scratch = e .scratch ∙ x .scratch;
@@ -177,6 +180,7 @@ module _ (sz : Bool) (c : Connection) (t l p sent bytes s o : List ℕ) (place :
     steps = λ r. never (sym r ∙ e);
     wrong = λ w. (refl, refl, refl, refl, refl);
     bounds = unmoved c t l p s o place allowance;
+    lacks = tt;
   }
 
   module _ (e : sz ≡ true) (d : Connection) (t′ l′ p′ sent′ bytes′ o′ : List ℕ) (at applied put : ℕ)
@@ -187,6 +191,7 @@ module _ (sz : Bool) (c : Connection) (t l p sent bytes s o : List ℕ) (place :
       steps = λ r v. spent c t l p s o place allowance d t′ l′ p′ o′ at applied put h (x .reached v);
       wrong = λ w. never (sym e ∙ w);
       bounds = x .bounds;
+      lacks = tt;
     }
 
     pub halted-runs : (why : Stop) (t″ l″ p″ o″ : List ℕ) → applied < allowance → Halts t′ l′ p′ s at o′ put why t″ l″ p″ o″
@@ -195,6 +200,7 @@ module _ (sz : Bool) (c : Connection) (t l p sent bytes s o : List ℕ) (place :
       steps = λ r v. halted c t l p s o place allowance d t′ l′ p′ o′ at applied put why t″ l″ p″ o″ h k (x .reached v);
       wrong = λ w. never (sym e ∙ w);
       bounds = x .bounds;
+      lacks = subst (λ (n : ℕ). Lacks why (length s) at n put) (x .size) (k .lacks);
     }
 
 -- the right sizes

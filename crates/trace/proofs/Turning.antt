@@ -26,7 +26,7 @@ use Rattle.events.proofs.Inside.{event-in}
 use Rattle.lines.specs.Writing.{Stores, longestLine}
 use Rattle.trace.specs.Runs.{Ran, Room, only, headerBytes, eventLine, stopped, wrote, onFound, runs}
 use Rattle.trace.specs.Applies.{Lies, Applied, Applies}
-use Rattle.trace.specs.Turns.{nextOf, headerSize, shownLine, Goes}
+use Rattle.trace.specs.Turns.{nextOf, headerSize, shownLine, Lacks, Goes}
 use Rattle.trace.specs.declared.Stop.{Stop}
 use Rattle.trace.specs.declared.Stop.the-variants as stop
 use Rattle.trace.specs.declared.Next.{Next}
@@ -67,23 +67,26 @@ not-stop p why e = absurd (subst IsAt e tt)
 not-at : {A : Type 0} (p : ℕ) (why : Stop) → next.Stop why ≡ next.At p → A
 not-at p why e = absurd (subst IsAt (sym e) tt)
 
-module _ (s : List ℕ) (at : ℕ) where
-  halt : (e : Event) (why : Stop) → nextOf e ≡ next.Stop why → (c : Conn) (n : ℕ) (room : Room) (go : Conn → ℕ → ℕ → Room → Ran)
-      → onFound (foundIn s e) c at n room go ≡ stopped c at why
-  halt (event.Tick now q) why h c n room go = not-stop q why h
-  halt (event.Frame now head body q) why h c n room go = not-stop q why h
-  halt (event.Open now q) why h c n room go = not-stop q why h
-  halt (event.Read now slot count q) why h c n room go = not-stop q why h
-  halt (event.Write now slot start q) why h c n room go = not-stop q why h
-  halt (event.Close now slot q) why h c n room go = not-stop q why h
-  halt (event.Drop now slot q) why h c n room go = not-stop q why h
-  halt (event.Gone now q) why h c n room go = not-stop q why h
-  halt event.Short why h c n room go = ap (stopped c at) (why-is stop.Short why h)
-  halt event.Bad why h c n room go = ap (stopped c at) (why-is stop.Bad why h)
+-- what has no place after it is cut short or unreadable
+no-event : (P : Event → Stop → Type 0) → P event.Short stop.Short → P event.Bad stop.Bad → (e : Event) (why : Stop) → nextOf e ≡ next.Stop why → P e why
+no-event P short bad (event.Tick now q) why h = not-stop q why h
+no-event P short bad (event.Frame now head body q) why h = not-stop q why h
+no-event P short bad (event.Open now q) why h = not-stop q why h
+no-event P short bad (event.Read now slot count q) why h = not-stop q why h
+no-event P short bad (event.Write now slot start q) why h = not-stop q why h
+no-event P short bad (event.Close now slot q) why h = not-stop q why h
+no-event P short bad (event.Drop now slot q) why h = not-stop q why h
+no-event P short bad (event.Gone now q) why h = not-stop q why h
+no-event P short bad event.Short why h = subst (P event.Short) (why-is stop.Short why h) short
+no-event P short bad event.Bad why h = subst (P event.Bad) (why-is stop.Bad why h) bad
 
+module _ (s : List ℕ) (at : ℕ) where
   pub stop-halts : (why : Stop) → nextOf (eventAt s at) ≡ next.Stop why → (c : Conn) (k n : ℕ) (room : Room) → runs (suc k) c s at n room ≡ stopped c at why
   unfolding runs callAt
-  stop-halts why h c k n room = halt (eventAt s at) why h c n room _
+  stop-halts why h c k n room = no-event (λ e w. onFound (foundIn s e) c at n room (λ d q m left. runs k d s q m left) ≡ stopped c at w) refl refl (eventAt s at) why h
+
+  pub stop-lacks : (why : Stop) → nextOf (eventAt s at) ≡ next.Stop why → (room put : ℕ) → Lacks why (length s) at room put
+  stop-lacks why h room put = no-event (λ e w. Inside s at e → Lacks w (length s) at room put) (λ i. i) (λ i. tt) (eventAt s at) why h (event-in s at)
 
   -- ---- an event
 

@@ -1,6 +1,7 @@
 -- What one event, and a run over the events from a place on, promise.
 use mathlib.Core.Path.{_≡_}
 use mathlib.Core.Bool.{Bool, true, false}
+use mathlib.Core.Logic.{_⊎_}
 use mathlib.Core.List.{List}
 use Prim.Native.Nat.{ℕ, suc, _+_, _-_, _≤_, _<_, min}
 use lib.ListN.{length, take}
@@ -11,9 +12,11 @@ use Rattle.rules.specs.State.{Conn}
 use Rattle.connection.specs.Abstract.{absOf, Valid}
 use Rattle.connection.specs.declared.Connection.{Connection}
 use Rattle.connection.specs.declared.Done.{Done}
+use Rattle.events.specs.Calls.{longest}
 use Rattle.events.specs.declared.Event.{Event}
 use Rattle.events.specs.declared.Event.the-variants as event
 use Rattle.lines.specs.Line.{lineOf}
+use Rattle.lines.specs.Writing.{longestLine}
 use Rattle.trace.specs.Runs.{Ran, only, stopped, wrote, runs, resumed}
 use Rattle.trace.specs.declared.Stop.{Stop}
 use Rattle.trace.specs.declared.Stop.the-variants as stop
@@ -52,6 +55,15 @@ shownLine n d sent bytes =
     (take (headerSize (d .answer .sent)) sent)
     (take (min (d .read) (length bytes)) bytes)
 
+-- what a run that stops so lacks, on every input of `size` bytes and in `room` bytes for lines: fewer bytes are left than the longest event
+-- takes, or less room than the longest line takes
+abbrev pub Lacks : Stop → ℕ → ℕ → ℕ → ℕ → Type 0
+Lacks stop.Short size at room put = size < at + longest
+Lacks stop.Full size at room put = room - put < longestLine
+Lacks stop.Bad size at room put = Unit {0}
+Lacks stop.Spent size at room put = Unit {0}
+Lacks stop.Refused size at room put = Unit {0}
+
 -- nothing is applied at a place, and so a run stops there, from any state
 pub record Halts (t l p s : List ℕ) (at : ℕ) (o : List ℕ) (put : ℕ) (why : Stop) (t′ l′ p′ o′ : List ℕ) : Type 0 where
   pub table : t′ ≡ t
@@ -59,6 +71,7 @@ pub record Halts (t l p s : List ℕ) (at : ℕ) (o : List ℕ) (put : ℕ) (why
   pub pool : p′ ≡ p
   pub out : o′ ≡ o
   pub stops : (c : Conn) (k n : ℕ) → runs (suc k) c s at n (only (length o - put)) ≡ stopped c at why
+  pub lacks : Lacks why (length s) at (length o) put
 
 -- from a valid state: the event's line, and the run goes on after it
 pub record Stepped (c : Connection) (t l p s : List ℕ) (at number : ℕ) (o : List ℕ) (put : ℕ) (d : Connection) (after end : ℕ) (t′ l′ p′ o′ : List ℕ) : Type 0 where
@@ -102,7 +115,8 @@ abbrev pub runsFrom : Connection → List ℕ → List ℕ → List ℕ → List
 runsFrom c t l p s o place allowance =
     runs (allowance - place .applied) (absOf c t l p) s (place .at) (place .applied) (only (length o - place .put))
 
--- Where a run stands, on every input: never back, and never past the allowance, the input or the room.
+-- Where a run stands, on every input: never back, and never past the allowance, the input or the room; and where it started, unless
+-- it applied an event.
 pub record Bounds (s o : List ℕ) (place : Place) (allowance at applied put : ℕ) : Type 0 where
   pub counted : place .applied ≤ applied
   pub allowed : place .applied ≤ allowance → applied ≤ allowance
@@ -110,6 +124,7 @@ pub record Bounds (s o : List ℕ) (place : Place) (allowance at applied put : �
   pub inside : place .at ≤ length s → at ≤ length s
   pub written : place .put ≤ put
   pub room : place .put ≤ length o → put ≤ length o
+  pub moved : ((applied ≡ place .applied) × (at ≡ place .at) × (put ≡ place .put)) ⊎ ((place .applied < applied) × (applied ≤ allowance))
 
 -- From a valid state, `sized` saying whether all that is lent has its size, a run is the definition's. A wrong size is told, and
 -- nothing changes.
@@ -117,6 +132,7 @@ pub record Runs (sized : Bool) (c : Connection) (t l p s o : List ℕ) (place : 
   pub steps : sized ≡ true → Valid c t l p → RanAs (runsFrom c t l p s o place allowance) place o r t′ l′ p′ o′
   pub wrong : sized ≡ false → (r ≡ stoppedAt c place stop.Refused) × (t′ ≡ t) × (l′ ≡ l) × (p′ ≡ p) × (o′ ≡ o)
   pub bounds : Bounds s o place allowance (r .place .at) (r .place .applied) (r .place .put)
+  pub lacks : Lacks (r .stop) (length s) (r .place .at) (length o) (r .place .put)
 
 -- "nothing changed": at a wrong size, what is lent to work with is as it was too
 abbrev pub Untouched : Bool → List ℕ → List ℕ → List ℕ → List ℕ → Type 0

@@ -4,7 +4,7 @@ use Prim.Native.Nat.{_+_}
 use lib.ListN.{length}
 use Rattle.trace.specs.Applies.{Lies}
 use Rattle.trace.specs.Turns.{nextOf}
-use Rattle.trace.proofs.Turning.{lies-in, stop-halts, full-halts, goes}
+use Rattle.trace.proofs.Turning.{lies-in, stop-halts, stop-lacks, full-halts, goes}
 use borrow.Author.Needs.{needs}
 use native.Mathlib.Omega.{arith}
 use Rattle.trace.proofs.turn.Statement.{statement}
@@ -30,7 +30,7 @@ returns c =
     let a = c .before .before .before .before .before .before .before .before .before .before .before .before .before .before .args in
     let h = ap nextOf (sym (c .before .before .before .before .before .before .read-event .ensures)) ∙ sym (c .before .before .before .before .before .after .ensures) ∙ c .before .before .before .found2 .given .1 in
     let l = rw (c .before .room .ensures) at (c .if1 .taken) in
-    record { table = refl; links = refl; pool = refl; out = refl; stops = λ x k n. full-halts (a .src .now) (a .place .at) _ h _ l x k n }
+    record { table = refl; links = refl; pool = refl; out = refl; stops = λ x k n. full-halts (a .src .now) (a .place .at) _ h _ l x k n; lacks = l }
 
 apply-requires : tie.Need-apply-requires
 apply-requires c κs =
@@ -52,7 +52,7 @@ returns-2 : tie.Need-returns-2
 returns-2 c =
     let a = c .before .before .before .before .before .before .before .before .before .before .before .before .args in
     let h = ap nextOf (sym (c .before .before .before .before .read-event .ensures)) ∙ sym (c .before .before .before .after .ensures) ∙ c .before .found .given .1 in
-    record { table = refl; links = refl; pool = refl; out = refl; stops = λ x k n. stop-halts (a .src .now) (a .place .at) _ h x k n _ }
+    record { table = refl; links = refl; pool = refl; out = refl; stops = λ x k n. stop-halts (a .src .now) (a .place .at) _ h x k n _; lacks = stop-lacks (a .src .now) (a .place .at) _ h _ _ }
 
 same-length : tie.Need-same-length
 same-length c = search needs
