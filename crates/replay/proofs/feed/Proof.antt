@@ -1,9 +1,7 @@
 -- `replay::feed` meets its contract: what was kept stands first, and what was read is inside the buffer. Assumes nothing.
-use mathlib.Core.Path.{refl}
 use borrow.Author.Needs.{needs}
 use native.Mathlib.Omega.{arith}
-use Rattle.trace.specs.Output.{kept}
-use Rattle.replay.proofs.Feeding.{kept-first}
+use Rattle.replay.proofs.Feeding.{feeds}
 use Rattle.replay.proofs.feed.Statement.{statement}
 use Rattle.replay.proofs.feed.Tie as tie
 
@@ -31,14 +29,7 @@ returns c =
     let k = c .before .before .before .before .before .before .before .before .before .before .keep-rest in
     let m = c .before .before .before .before .before .read-more in
     let e = rw (c .before .got .given .1) at (m .ensures .0) in
-    record {
-      first = kept-first (kept (a .src .now) (a .state .at) (a .state .have)) (a .src .now) (k .last .0) (m .last .0) (k .result) (k .ensures .0) (k .ensures .1 .0) (m .ensures .1);
-      more = omega (arith, e .0, k .ensures .0);
-      inside = omega (arith, e .1, k .kept .0);
-      start = refl;
-      lines = refl;
-      stays = (refl, refl);
-    }
+    feeds (a .state) (a .src .now) (k .last .0) (k .ensures .0) (k .ensures .1 .0) (m .ensures .1) (e .0) (omega (arith, e .1, k .kept .0))
 
 same-length-2 : tie.Need-same-length-2
 same-length-2 c = search needs
@@ -48,14 +39,7 @@ returns-2 c =
     let a = c .before .before .before .before .before .before .before .before .before .before .before .before .args in
     let k = c .before .before .before .before .before .before .before .before .before .keep-rest in
     let m = c .before .before .before .before .read-more in
-    record {
-      first = kept-first (kept (a .src .now) (a .state .at) (a .state .have)) (a .src .now) (k .last .0) (m .last .0) (k .result) (k .ensures .0) (k .ensures .1 .0) (m .ensures .1);
-      more = omega (arith, k .ensures .0);
-      inside = k .ensures .1 .1;
-      start = refl;
-      lines = refl;
-      stays = (refl, refl);
-    }
+    feeds (a .state) (a .src .now) (k .last .0) (k .ensures .0) (k .ensures .1 .0) (m .ensures .1) (omega arith) (k .ensures .1 .1)
 
 same-length-3 : tie.Need-same-length-3
 same-length-3 c = search needs
@@ -65,14 +49,7 @@ returns-3 c =
     let a = c .before .before .before .before .before .before .before .before .before .before .before .before .args in
     let k = c .before .before .before .before .before .before .before .before .before .keep-rest in
     let m = c .before .before .before .before .read-more in
-    record {
-      first = kept-first (kept (a .src .now) (a .state .at) (a .state .have)) (a .src .now) (k .last .0) (m .last .0) (k .result) (k .ensures .0) (k .ensures .1 .0) (m .ensures .1);
-      more = omega (arith, k .ensures .0);
-      inside = k .ensures .1 .1;
-      start = refl;
-      lines = refl;
-      stays = (refl, refl);
-    }
+    feeds (a .state) (a .src .now) (k .last .0) (k .ensures .0) (k .ensures .1 .0) (m .ensures .1) (omega arith) (k .ensures .1 .1)
 
 pub feed-spec : {M : Type 1} → statement M
 feed-spec =
