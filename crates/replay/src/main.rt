@@ -170,9 +170,7 @@ fn go_on(state: State, stop: Stop, src: &mut [u8], out: &mut [u8]) -> State
             }
             feed(state, src)
         }
-        Stop::Bad => finish(state, stop, out),
-        Stop::Spent => finish(state, stop, out),
-        Stop::Refused => finish(state, stop, out),
+        _ => finish(state, stop, out),
     }
 }
 

@@ -1,11 +1,17 @@
 -- `replay::go_on` meets its contract: each reason to stop has what follows it. Assumes nothing.
 use mathlib.Core.Path.{_≡_, refl, sym, _∙_}
-use Prim.Native.Nat.{ℕ, _≤_}
+use mathlib.Core.List.{List, [], _∷_}
+use Prim.Native.Nat.{ℕ}
 use lib.ListN.{length}
+use types.Run.{OneOf, miss}
+use denote.Enum.Declared.{tagOf}
 use borrow.Author.Needs.{needs}
 use native.Mathlib.Omega.{arith}
 use Rattle.memory.proofs.Laws.{never}
-use Rattle.replay.specs.Places.{Sound}
+use Rattle.trace.proofs.Stop.{the-type}
+use Rattle.trace.specs.declared.Stop.{Stop}
+use Rattle.trace.specs.declared.Stop.the-variants as stop
+use Rattle.replay.specs.Places.{Sound, Ends, GoesOn}
 use Rattle.replay.specs.declared.State.{State}
 use Rattle.replay.proofs.go_on.Statement.{statement}
 use Rattle.replay.proofs.go_on.Tie as tie
@@ -13,6 +19,18 @@ use Rattle.replay.proofs.go_on.Tie as tie
 -- the places stay, and the room is empty
 inside : (input room : ℕ) (s s′ : State) → Sound input room s → s′ .at ≡ s .at → s′ .have ≡ s .have → s′ .put ≡ 0 → Sound input room s′
 inside input room s s′ p a h e = (omega (arith, p .0, a, h), omega (arith, p .1, h), omega (arith, e))
+
+abbrev lastTags : List ℕ
+lastTags = 1 ∷ 2 ∷ 4 ∷ []
+
+module _ (s s′ : State) (input input′ room room′ : List ℕ) where
+  -- after every other reason all is done
+  ends : (why : Stop) → OneOf lastTags (tagOf the-type why) → Ends why s room s′ room′ → GoesOn why s input room s′ input′ room′
+  ends stop.Short h e = absurd (miss lastTags 0 tt h)
+  ends stop.Bad h e = e
+  ends stop.Spent h e = e
+  ends stop.Full h e = absurd (miss lastTags 3 tt h)
+  ends stop.Refused h e = e
 
 enum-told : tie.Need-enum-told
 enum-told c = search needs
@@ -34,29 +52,15 @@ returns c =
     let a = c .before .before .before .before .before .before .before .before .before .args in
     let p = c .before .before .before .before .before .before .before .before .before .pre in
     let f = c .before .before .finish in
-    let e = rw (c .before .before .before .before .before .enum-told2 .given .1) at (f .ensures .1) in
-    (inside (length (a .src .now)) (length (a .out .now)) (a .state) (f .result) p (f .ensures .0 .0) (f .ensures .0 .1) (f .ensures .0 .2), (f .ensures .0 .3, rw (c .before .before .before .before .before .enum-told2 .given .1) (λ x. never (sym (c .before .before .before .before .if1 .taken) ∙ x), λ x. e)))
+    let q = c .before .before .before .before .before .enum-told2 .given .1 in
+    let e = rw q at (f .ensures .1) in
+    (inside (length (a .src .now)) (length (a .out .now)) (a .state) (f .result) p (f .ensures .0 .0) (f .ensures .0 .1) (f .ensures .0 .2), (f .ensures .0 .3, rw q (λ x. never (sym (c .before .before .before .before .if1 .taken) ∙ x), λ x. e)))
 
 feed-requires : tie.Need-feed-requires
 feed-requires c κs = search needs
 
-enum-told-3 : tie.Need-enum-told-3
-enum-told-3 c = search needs
-
 finish-requires-2 : tie.Need-finish-requires-2
 finish-requires-2 c κs = search needs
-
-enum-told-4 : tie.Need-enum-told-4
-enum-told-4 c = search needs
-
-finish-requires-3 : tie.Need-finish-requires-3
-finish-requires-3 c κs = search needs
-
-enum-told-5 : tie.Need-enum-told-5
-enum-told-5 c = search needs
-
-finish-requires-4 : tie.Need-finish-requires-4
-finish-requires-4 c κs = search needs
 
 same-length-2 : tie.Need-same-length-2
 same-length-2 c = search needs
@@ -82,33 +86,10 @@ same-length-4 c = search needs
 
 returns-4 : tie.Need-returns-4
 returns-4 c =
-    let a = c .before .before .before .before .before .before .before .before .args in
-    let p = c .before .before .before .before .before .before .before .before .pre in
+    let a = c .before .before .before .before .before .before .before .args in
+    let p = c .before .before .before .before .before .before .before .pre in
     let f = c .before .before .finish2 in
-    let e = rw (c .before .before .before .before .enum-told3 .given .1) at (f .ensures .1) in
-    (inside (length (a .src .now)) (length (a .out .now)) (a .state) (f .result) p (f .ensures .0 .0) (f .ensures .0 .1) (f .ensures .0 .2), (f .ensures .0 .3, rw (c .before .before .before .before .enum-told3 .given .1) e))
-
-same-length-5 : tie.Need-same-length-5
-same-length-5 c = search needs
-
-returns-5 : tie.Need-returns-5
-returns-5 c =
-    let a = c .before .before .before .before .before .before .before .before .args in
-    let p = c .before .before .before .before .before .before .before .before .pre in
-    let f = c .before .before .finish3 in
-    let e = rw (c .before .before .before .before .enum-told4 .given .1) at (f .ensures .1) in
-    (inside (length (a .src .now)) (length (a .out .now)) (a .state) (f .result) p (f .ensures .0 .0) (f .ensures .0 .1) (f .ensures .0 .2), (f .ensures .0 .3, rw (c .before .before .before .before .enum-told4 .given .1) e))
-
-same-length-6 : tie.Need-same-length-6
-same-length-6 c = search needs
-
-returns-6 : tie.Need-returns-6
-returns-6 c =
-    let a = c .before .before .before .before .before .before .before .before .args in
-    let p = c .before .before .before .before .before .before .before .before .pre in
-    let f = c .before .before .finish4 in
-    let e = rw (c .before .before .before .before .enum-told5 .given .1) at (f .ensures .1) in
-    (inside (length (a .src .now)) (length (a .out .now)) (a .state) (f .result) p (f .ensures .0 .0) (f .ensures .0 .1) (f .ensures .0 .2), (f .ensures .0 .3, rw (c .before .before .before .before .enum-told5 .given .1) e))
+    (inside (length (a .src .now)) (length (a .out .now)) (a .state) (f .result) p (f .ensures .0 .0) (f .ensures .0 .1) (f .ensures .0 .2), (f .ensures .0 .3, ends (a .state) (f .result) (a .src .now) (a .src .now) (a .out .now) _ (a .stop) (c .before .before .before .before .match .keys3) (f .ensures .1)))
 
 pub go-on-spec : {M : Type 1} → statement M
 go-on-spec =
@@ -121,19 +102,10 @@ go-on-spec =
     same-length
     returns
     feed-requires
-    enum-told-3
     finish-requires-2
-    enum-told-4
-    finish-requires-3
-    enum-told-5
-    finish-requires-4
     same-length-2
     returns-2
     same-length-3
     returns-3
     same-length-4
-    returns-4
-    same-length-5
-    returns-5
-    same-length-6
-    returns-6)
+    returns-4)

@@ -9,6 +9,21 @@ use native.Mathlib.Omega.{arith}
 use Rattle.replay.proofs.replay.Statement.{statement}
 use Rattle.replay.proofs.replay.Tie as tie
 
+-- the bytes read first are inside the buffer
+read-inside : (b : tie.After-read-first) → b .read-first .result ≤ length (b .read-first .last .0)
+read-inside b = omega (arith, b .read-first .ensures, b .read-first .kept .0)
+
+-- what the settings ask for is there, and they end inside the input
+asked : (b : tie.After-begun)
+    → let a = b .before .before .before .before .before .before .before .before .before .before .before .before .before .before .before .args in
+    let z = b .begun .given .0 .1 .0 in
+    (z .table ≤ length (a .table .now)) × (z .links ≤ length (a .links .now)) × (z .pool ≤ length (a .pool .now)) × (b .begun .given .0 .1 .1 .0 ≤ b .before .before .before .before .before .before .read-first .result)
+asked b =
+    let p = b .before .before .before .before .before .before .before .before .before .before .before .before .before .before .before .pre in
+    let k = b .before .before .before .before .before .before in
+    let f = begun-fits _ _ _ _ (sym (b .before .before .begin .ensures) ∙ b .begun .given .1) in
+    (omega (arith, f .0 .table, p .0), omega (arith, f .0 .links, p .1), omega (arith, f .0 .pool, p .2), omega (arith, f .1, length-take-le (k .read-first .result) (k .read-first .last .0) (read-inside k)))
+
 read-first-requires : tie.Need-read-first-requires
 read-first-requires c κs = search needs
 
@@ -16,10 +31,7 @@ slice-reshare-prefix-begin : tie.Need-slice-reshare-prefix-begin
 slice-reshare-prefix-begin c = search needs
 
 slice-aggregate-begin : tie.Need-slice-aggregate-begin
-slice-aggregate-begin c =
-    let k = c .before .before .before .read-first in
-    let h : k .result ≤ length (k .last .0) = omega (arith, k .ensures, k .kept .0) in
-    sym (length-take-le (k .result) (k .last .0) h)
+slice-aggregate-begin c = sym (length-take-le _ _ (read-inside (c .before .before .before)))
 
 begin-requires : tie.Need-begin-requires
 begin-requires c κs = search needs
@@ -28,47 +40,25 @@ enum-known-begun : tie.Need-enum-known-begun
 enum-known-begun c = search needs
 
 slice-relend-prefix-start : tie.Need-slice-relend-prefix-start
-slice-relend-prefix-start c =
-    let k = c .before .before .before .before .before .before .before .read-first in
-    let f = begun-fits _ _ _ _ (sym (c .before .before .before .begin .ensures) ∙ c .before .begun .given .1) in
-    omega (arith, f .0 .table, c .before .before .before .before .before .before .before .before .before .before .before .before .before .before .before .before .pre .0)
+slice-relend-prefix-start c = asked (c .before) .0
 
 slice-aggregate-start : tie.Need-slice-aggregate-start
-slice-aggregate-start c =
-    let k = c .before .before .before .before .before .before .before .before .read-first in
-    let f = begun-fits _ _ _ _ (sym (c .before .before .before .before .begin .ensures) ∙ c .before .before .begun .given .1) in
-    sym (length-take-le _ (c .before .before .before .before .before .before .before .before .before .before .before .before .before .before .before .before .before .args .table .now) (omega (arith, f .0 .table, c .before .before .before .before .before .before .before .before .before .before .before .before .before .before .before .before .before .pre .0)))
+slice-aggregate-start c = sym (length-take-le _ _ (asked (c .before .before) .0))
 
 slice-relend-prefix-start-2 : tie.Need-slice-relend-prefix-start-2
-slice-relend-prefix-start-2 c =
-    let k = c .before .before .before .before .before .before .before .before .read-first in
-    let f = begun-fits _ _ _ _ (sym (c .before .before .before .before .begin .ensures) ∙ c .before .before .begun .given .1) in
-    omega (arith, f .0 .links, c .before .before .before .before .before .before .before .before .before .before .before .before .before .before .before .before .before .pre .1)
+slice-relend-prefix-start-2 c = asked (c .before .before) .1
 
 slice-aggregate-start-2 : tie.Need-slice-aggregate-start-2
-slice-aggregate-start-2 c =
-    let k = c .before .before .before .before .before .before .before .before .before .read-first in
-    let f = begun-fits _ _ _ _ (sym (c .before .before .before .before .before .begin .ensures) ∙ c .before .before .before .begun .given .1) in
-    sym (length-take-le _ (c .before .before .before .before .before .before .before .before .before .before .before .before .before .before .before .before .before .before .args .links .now) (omega (arith, f .0 .links, c .before .before .before .before .before .before .before .before .before .before .before .before .before .before .before .before .before .before .pre .1)))
+slice-aggregate-start-2 c = sym (length-take-le _ _ (asked (c .before .before .before) .1))
 
 slice-relend-prefix-start-3 : tie.Need-slice-relend-prefix-start-3
-slice-relend-prefix-start-3 c =
-    let k = c .before .before .before .before .before .before .before .before .before .read-first in
-    let f = begun-fits _ _ _ _ (sym (c .before .before .before .before .before .begin .ensures) ∙ c .before .before .before .begun .given .1) in
-    omega (arith, f .0 .pool, c .before .before .before .before .before .before .before .before .before .before .before .before .before .before .before .before .before .before .pre .2)
+slice-relend-prefix-start-3 c = asked (c .before .before .before) .2
 
 slice-aggregate-start-3 : tie.Need-slice-aggregate-start-3
-slice-aggregate-start-3 c =
-    let k = c .before .before .before .before .before .before .before .before .before .before .read-first in
-    let f = begun-fits _ _ _ _ (sym (c .before .before .before .before .before .before .begin .ensures) ∙ c .before .before .before .before .begun .given .1) in
-    sym (length-take-le _ (c .before .before .before .before .before .before .before .before .before .before .before .before .before .before .before .before .before .before .before .args .pool .now) (omega (arith, f .0 .pool, c .before .before .before .before .before .before .before .before .before .before .before .before .before .before .before .before .before .before .before .pre .2)))
+slice-aggregate-start-3 c = sym (length-take-le _ _ (asked (c .before .before .before .before) .2))
 
 start-requires : tie.Need-start-requires
-start-requires c κs =
-    let k = c .before .before .before .before .before .before .before .before .before .before .before .before .before .before .read-first in
-    let f = begun-fits _ _ _ _ (sym (c .before .before .before .before .before .before .before .before .before .before .begin .ensures) ∙ c .before .before .before .before .before .before .before .before .begun .given .1) in
-    let h : k .result ≤ length (k .last .0) = omega (arith, k .ensures, k .kept .0) in
-    (omega (arith, f .1, length-take-le (k .result) (k .last .0) h), h)
+start-requires c κs = (asked (c .before .before .before .before .before .before .before .before) .3, read-inside (c .before .before .before .before .before .before .before .before .before .before .before .before .before .before))
 
 enum-known-begun-2 : tie.Need-enum-known-begun-2
 enum-known-begun-2 c = search needs

@@ -11,7 +11,9 @@ enum-known-created : tie.Need-enum-known-created
 enum-known-created c = search needs
 
 play-requires : tie.Need-play-requires
-play-requires c κs = (c .before .before .before .before .before .before .before .before .before .before .before .before .before .before .before .before .before .before .before .before .before .before .before .before .before .before .before .pre .0, c .before .before .before .before .before .before .before .before .before .before .before .before .before .before .before .before .before .before .before .before .before .before .before .before .before .before .before .pre .1, omega arith)
+play-requires c κs =
+    let p = c .before .before .before .before .before .before .before .before .before .before .before .before .before .before .before .before .before .before .before .before .before .before .before .before .before .before .before .pre in
+    (p .0, p .1, omega arith)
 
 enum-told : tie.Need-enum-told
 enum-told c = search needs
