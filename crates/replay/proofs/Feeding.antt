@@ -1,8 +1,9 @@
 -- What is kept of the input stands first, whatever is read after it. Assumes nothing.
-use mathlib.Core.Path.{_≡_, refl, sym, ap, _∙_}
-use mathlib.Core.Bool.{Bool}
+use mathlib.Core.Path.{_≡_, refl, sym, ap, subst, _∙_}
+use mathlib.Core.Bool.{Bool, true, false}
+use mathlib.Core.Logic.{_⊎_}
 use mathlib.Core.List.{List, _++_}
-use Prim.Native.Nat.{ℕ, _≤_}
+use Prim.Native.Nat.{ℕ, _≤_, _<_}
 use native.Mathlib.Omega.{arith}
 use lib.ListN.{length, take, drop}
 use lib.Seq.{take-append-seam, length-take-le}
@@ -25,12 +26,13 @@ fresh s have ended done = record { connection = s .connection; applied = s .appl
 -- n bytes are kept of the input, and a read changes none of them: s₁ is the buffer between the two
 pub feeds : (s : State) (input s₁ : List ℕ) {s₂ : List ℕ} {n have : ℕ} {ended done : Bool}
     → n ≡ length (kept input (s .at) (s .have)) → s₁ ≡ kept input (s .at) (s .have) ++ drop n input → take n s₂ ≡ take n s₁
-    → n ≤ have → have ≤ length input → Fed input s (fresh s have ended done) s₂
-feeds s input s₁ {s₂} {n} e f g more h = record {
+    → n ≤ have → have ≤ length input → (done ≡ false → (ended ≡ true) ⊎ (n < have)) → Fed input s (fresh s have ended done) s₂
+feeds s input s₁ {s₂} {n} {have} {ended} e f g more h near = record {
   first = kept-first (kept input (s .at) (s .have)) input s₁ s₂ n e f g;
   more = omega arith;
   inside = h;
   start = refl;
   lines = refl;
   stays = (refl, refl);
+  nears = λ live. subst (λ (m : ℕ). (ended ≡ true) ⊎ (m < have)) e (near live);
 }

@@ -1,9 +1,11 @@
 -- Places in the program's buffers, and what a turn of the program does to them.
 use mathlib.Core.Path.{_≡_}
-use mathlib.Core.Bool.{true, false}
+use mathlib.Core.Bool.{true, false, cond}
+use mathlib.Core.Logic.{_⊎_}
 use mathlib.Core.List.{List}
-use Prim.Native.Nat.{ℕ, _-_, _≤_}
+use Prim.Native.Nat.{ℕ, zero, suc, _+_, _-_, _*_, _≤_, _<_}
 use lib.ListN.{length, take}
+use Rattle.events.specs.Calls.{longest}
 use Rattle.lines.specs.declared.Put.{Put}
 use Rattle.trace.specs.Applies.{sized}
 use Rattle.trace.specs.Output.{Finishes, allowance, kept}
@@ -36,6 +38,20 @@ afterRun s r = record {
 abbrev pub Sound : ℕ → ℕ → State → Type 0
 Sound input room s = (s .at ≤ s .have) × (s .have ≤ input) × (s .put ≤ room)
 
+-- 1 where there is any
+abbrev pub some : ℕ → ℕ
+some zero = 0
+some (suc n) = 1
+
+-- How much there may still be to do: events to apply, bytes that an event may still want, whether the input may go on, and lines to write.
+-- An event is worth more than all the rest.
+abbrev pub left : State → ℕ
+left s = (allowance - s .applied) * (longest + 3) + ((longest - (s .have - s .at)) + (cond (s .ended) 0 1 + some (s .put)))
+
+-- all is done, or less is left
+abbrev pub Nears : State → State → Type 0
+Nears s s′ = s′ .done ≡ false → left s′ < left s
+
 -- nothing but places changes
 abbrev pub Stays : State → State → Type 0
 Stays s s′ = (s′ .connection ≡ s .connection) × (s′ .applied ≡ s .applied)
@@ -48,6 +64,7 @@ pub record Fed (input : List ℕ) (s s′ : State) (input′ : List ℕ) : Type 
   pub start : s′ .at ≡ 0
   pub lines : s′ .put ≡ s .put
   pub stays : Stays s s′
+  pub nears : s′ .done ≡ false → (s′ .ended ≡ true) ⊎ (length (kept input (s .at) (s .have)) < s′ .have)
 
 -- the last line of a run that stopped so, `left` bytes being left, stands at the start of the room
 abbrev pub Closes : Stop → ℕ → ℕ → ℕ → List ℕ → List ℕ → Type 0
@@ -74,8 +91,8 @@ pub record Played (s : State) (t l p sent bytes input room : List ℕ) (s′ : S
   pub stays : Stays (afterRun s report) s′
   pub goes : GoesOn (report .stop) (afterRun s report) input written s′ input′ room′
 
--- bytes read come after those that are there, inside the buffer
+-- bytes read, one or more, come after those that are there, inside the buffer
 abbrev pub Inside : ℕ → ℕ → Got → Type 0
-Inside have input (More n) = (have ≤ n) × (n ≤ input)
+Inside have input (More n) = (have < n) × (n ≤ input)
 Inside have input End = Unit {0}
 Inside have input Failed = Unit {0}

@@ -4,7 +4,9 @@ mod room;
 ghost use mathlib.Core.Path.{_≡_};
 ghost use Prim.Native.Nat.{_≤_};
 ghost use lib.ListN.{length, take};
-ghost use Rattle.replay.specs.Places.{placeOf, afterRun, Sound, Stays, Fed, Closes, Ends, GoesOn, Played, Inside};
+ghost use Rattle.lines.specs.Writing.{longestLine};
+ghost use Rattle.trace.specs.Turns.{Lacks};
+ghost use Rattle.replay.specs.Places.{placeOf, afterRun, Sound, Nears, Stays, Fed, Closes, Ends, GoesOn, Played, Inside};
 use connection::Connection;
 use lines::Put;
 use opening::Created;
@@ -46,10 +48,10 @@ fn read_more(src: &mut [u8], have: usize) -> Got
         io::write_all(2, b"replay: cannot read standard input\n");
         return Got::Failed;
     }
-    if got == 0 {
+    let n = io::count(got, &src[have..]);
+    if n == 0 {
         return Got::End;
     }
-    let n = io::count(got, &src[have..]);
     Got::More(have + n)
 }
 
@@ -158,9 +160,12 @@ fn finish(state: State, stop: Stop, out: &mut [u8]) -> State
 // What follows a run that stopped so.
 fn go_on(state: State, stop: Stop, src: &mut [u8], out: &mut [u8]) -> State
     requires { ⌜ Sound (length (now src)) (length (now out)) state ⌝ }
+    requires { ⌜ longestLine ≤ length (now out) ⌝ }
+    requires { ⌜ Lacks stop (state .have) (state .at) (length (now out)) (state .put) ⌝ }
     ensures { λ r. ⌜ Sound (length (now (src .entry))) (length (now (out .entry))) r ⌝ }
     ensures { λ r. ⌜ Stays state r ⌝ }
     ensures { λ r. ⌜ GoesOn stop state (now (src .entry)) (now (out .entry)) r (now (src .exit)) (now (out .exit)) ⌝ }
+    ensures { λ r. ⌜ Nears state r ⌝ }
 {
     match stop {
         Stop::Full => flush(state, &out[..]),
@@ -214,7 +219,9 @@ fn turn(
     out: &mut [u8],
 ) -> State
     requires { ⌜ Sound (length (now src)) (length (now out)) state ⌝ }
+    requires { ⌜ longestLine ≤ length (now out) ⌝ }
     ensures { λ r. ⌜ Sound (length (now (src .entry))) (length (now (out .entry))) r ⌝ }
+    ensures { λ r. ⌜ Nears state r ⌝ }
     ensures { λ r. ⌜ Played state (now (table .entry)) (now (links .entry)) (now (pool .entry)) (now (sent .entry)) (now (bytes .entry)) (now (src .entry)) (now (out .entry)) r (now (table .exit)) (now (links .exit)) (now (pool .exit)) (now (src .exit)) (now (out .exit)) ⌝ }
 {
     let connection = state.connection;
@@ -237,7 +244,7 @@ fn turn(
     go_on(next, stop, src, out)
 }
 
-// Turn by turn. Each reads a byte or more, writes 200,000 or more, or is the last but one: no input comes to as many turns.
+// Turn by turn, until all is done. Each turn but the last leaves less to do, so this ends even where the input does not.
 fn play(
     start: State,
     table: &mut [u64],
@@ -249,15 +256,11 @@ fn play(
     out: &mut [u8],
 )
     requires { ⌜ Sound (length (now src)) (length (now out)) start ⌝ }
+    requires { ⌜ longestLine ≤ length (now out) ⌝ }
 {
     let mut state = start;
-    let mut turns = u64::MAX;
-    while 0 < turns {
+    while !state.done {
         state = turn(state, table, links, pool, sent, bytes, src, out);
-        if state.done {
-            return;
-        }
-        turns = turns - 1;
     }
 }
 
@@ -282,7 +285,7 @@ fn start(
     at: usize,
     have: usize,
 )
-    requires { ⌜ (at ≤ have) × (have ≤ length (now src)) ⌝ }
+    requires { ⌜ (at ≤ have) × (have ≤ length (now src)) × (longestLine ≤ length (now out)) ⌝ }
 {
     let created = opening::new(settings, table, links, pool);
     match created {
@@ -339,7 +342,7 @@ fn replay(
     src: &mut [u8],
     out: &mut [u8],
 )
-    requires { ⌜ (2700 ≤ length (now table)) × (616 ≤ length (now links)) × (630784 ≤ length (now pool)) × (100 ≤ length (now src)) ⌝ }
+    requires { ⌜ (2700 ≤ length (now table)) × (616 ≤ length (now links)) × (630784 ≤ length (now pool)) × (100 ≤ length (now src)) × (longestLine ≤ length (now out)) ⌝ }
 {
     let have = read_first(src);
     let begun = trace::begin(&src[..have]);

@@ -1,6 +1,9 @@
 -- `replay::feed` meets its contract: what was kept stands first, and what was read is inside the buffer. Assumes nothing.
+use mathlib.Core.Path.{refl}
+use mathlib.Core.Logic.{inl, inr}
 use borrow.Author.Needs.{needs}
 use native.Mathlib.Omega.{arith}
+use Rattle.memory.proofs.Laws.{never}
 use Rattle.replay.proofs.Feeding.{feeds}
 use Rattle.replay.proofs.feed.Statement.{statement}
 use Rattle.replay.proofs.feed.Tie as tie
@@ -29,7 +32,7 @@ returns c =
     let k = c .before .before .before .before .before .before .before .before .before .before .keep-rest in
     let m = c .before .before .before .before .before .read-more in
     let e = rw (c .before .got .given .1) at (m .ensures .0) in
-    feeds (a .state) (a .src .now) (k .last .0) (k .ensures .0) (k .ensures .1 .0) (m .ensures .1) (e .0) (omega (arith, e .1, k .kept .0))
+    feeds (a .state) (a .src .now) (k .last .0) (k .ensures .0) (k .ensures .1 .0) (m .ensures .1) (omega (arith, e .0)) (omega (arith, e .1, k .kept .0)) (λ live. inr (e .0))
 
 same-length-2 : tie.Need-same-length-2
 same-length-2 c = search needs
@@ -39,7 +42,7 @@ returns-2 c =
     let a = c .before .before .before .before .before .before .before .before .before .before .before .before .args in
     let k = c .before .before .before .before .before .before .before .before .before .keep-rest in
     let m = c .before .before .before .before .read-more in
-    feeds (a .state) (a .src .now) (k .last .0) (k .ensures .0) (k .ensures .1 .0) (m .ensures .1) (omega arith) (k .ensures .1 .1)
+    feeds (a .state) (a .src .now) (k .last .0) (k .ensures .0) (k .ensures .1 .0) (m .ensures .1) (omega arith) (k .ensures .1 .1) (λ live. inl refl)
 
 same-length-3 : tie.Need-same-length-3
 same-length-3 c = search needs
@@ -49,7 +52,7 @@ returns-3 c =
     let a = c .before .before .before .before .before .before .before .before .before .before .before .before .args in
     let k = c .before .before .before .before .before .before .before .before .before .keep-rest in
     let m = c .before .before .before .before .read-more in
-    feeds (a .state) (a .src .now) (k .last .0) (k .ensures .0) (k .ensures .1 .0) (m .ensures .1) (omega arith) (k .ensures .1 .1)
+    feeds (a .state) (a .src .now) (k .last .0) (k .ensures .0) (k .ensures .1 .0) (m .ensures .1) (omega arith) (k .ensures .1 .1) (λ done. never done)
 
 pub feed-spec : {M : Type 1} → statement M
 feed-spec =

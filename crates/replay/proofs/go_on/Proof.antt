@@ -13,6 +13,7 @@ use Rattle.trace.specs.declared.Stop.{Stop}
 use Rattle.trace.specs.declared.Stop.the-variants as stop
 use Rattle.replay.specs.Places.{Sound, Ends, GoesOn}
 use Rattle.replay.specs.declared.State.{State}
+use Rattle.replay.proofs.Nearing.{kept-length, flushed, fed}
 use Rattle.replay.proofs.go_on.Statement.{statement}
 use Rattle.replay.proofs.go_on.Tie as tie
 
@@ -54,7 +55,7 @@ returns c =
     let f = c .before .before .finish in
     let q = c .before .before .before .before .before .enum-told2 .given .1 in
     let e = rw q at (f .ensures .1) in
-    (inside (length (a .src .now)) (length (a .out .now)) (a .state) (f .result) p (f .ensures .0 .0) (f .ensures .0 .1) (f .ensures .0 .2), (f .ensures .0 .3, rw q (λ x. never (sym (c .before .before .before .before .if1 .taken) ∙ x), λ x. e)))
+    (inside (length (a .src .now)) (length (a .out .now)) (a .state) (f .result) (p .0) (f .ensures .0 .0) (f .ensures .0 .1) (f .ensures .0 .2), (f .ensures .0 .3, (rw q (λ x. never (sym (c .before .before .before .before .if1 .taken) ∙ x), λ x. e), λ n. never (sym (e .0) ∙ n))))
 
 feed-requires : tie.Need-feed-requires
 feed-requires c κs = search needs
@@ -70,16 +71,21 @@ returns-2 c =
     let a = c .before .before .before .before .before .before .args in
     let p = c .before .before .before .before .before .before .pre in
     let k = c .flush in
-    (inside (length (a .src .now)) (length (a .out .now)) (a .state) (k .result) p (k .ensures .0) (k .ensures .1) (k .ensures .2), (k .ensures .4, rw (c .before .before .enum-told .given .1) (k .ensures .0, k .ensures .1, k .ensures .3, refl, refl)))
+    let q = c .before .before .enum-told .given .1 in
+    (inside (length (a .src .now)) (length (a .out .now)) (a .state) (k .result) (p .0) (k .ensures .0) (k .ensures .1) (k .ensures .2), (k .ensures .4, (rw q (k .ensures .0, k .ensures .1, k .ensures .3, refl, refl), λ n. flushed (a .state) (k .result) (length (a .out .now)) (p .1 .0) (rw q at (p .1 .1)) (k .ensures .4 .1) (k .ensures .0) (k .ensures .1) (k .ensures .2) (k .ensures .3))))
 
 same-length-3 : tie.Need-same-length-3
 same-length-3 c = search needs
 
 returns-3 : tie.Need-returns-3
 returns-3 c =
+    let a = c .before .before .before .before .before .before .before .before .before .args in
     let p = c .before .before .before .before .before .before .before .before .before .pre in
     let k = c .before .before .feed .ensures in
-    ((omega (arith, k .start), k .inside, omega (arith, k .lines, p .2)), (k .stays, rw (c .before .before .before .before .before .enum-told2 .given .1) (λ x. k, λ x. never (sym x ∙ c .before .before .before .before .if1 .left))))
+    let q = c .before .before .before .before .before .enum-told2 .given .1 in
+    let live = c .before .before .before .before .if1 .left in
+    let n = kept-length (a .src .now) (a .state .at) (a .state .have) (p .0 .0) (p .0 .1) in
+    ((omega (arith, k .start), k .inside, omega (arith, k .lines, p .0 .2)), (k .stays, (rw q (λ x. k, λ x. never (sym x ∙ live)), fed (a .src .now) (a .state) _ _ (p .0 .0) n (rw q at (p .1 .1)) live k)))
 
 same-length-4 : tie.Need-same-length-4
 same-length-4 c = search needs
@@ -89,7 +95,7 @@ returns-4 c =
     let a = c .before .before .before .before .before .before .before .args in
     let p = c .before .before .before .before .before .before .before .pre in
     let f = c .before .before .finish2 in
-    (inside (length (a .src .now)) (length (a .out .now)) (a .state) (f .result) p (f .ensures .0 .0) (f .ensures .0 .1) (f .ensures .0 .2), (f .ensures .0 .3, ends (a .state) (f .result) (a .src .now) (a .src .now) (a .out .now) _ (a .stop) (c .before .before .before .before .match .keys3) (f .ensures .1)))
+    (inside (length (a .src .now)) (length (a .out .now)) (a .state) (f .result) (p .0) (f .ensures .0 .0) (f .ensures .0 .1) (f .ensures .0 .2), (f .ensures .0 .3, (ends (a .state) (f .result) (a .src .now) (a .src .now) (a .out .now) _ (a .stop) (c .before .before .before .before .match .keys3) (f .ensures .1), λ n. never (sym (f .ensures .1 .0) ∙ n))))
 
 pub go-on-spec : {M : Type 1} → statement M
 go-on-spec =

@@ -29,12 +29,6 @@ same-length c = search needs
 returns : tie.Need-returns
 returns c = (tt, front-stays _ (c .before .before .before .before .before .before .before .before .args .src .now) _ (c .before .before .before .before .before .before .before .before .pre))
 
-same-length-2 : tie.Need-same-length-2
-same-length-2 c = search needs
-
-returns-2 : tie.Need-returns-2
-returns-2 c = (tt, front-stays _ (c .before .before .before .before .before .before .before .args .src .now) _ (c .before .before .before .before .before .before .before .pre))
-
 sub-count : tie.Need-sub-count
 sub-count c = search needs
 
@@ -47,6 +41,12 @@ part-count-end c = search needs
 count-requires : tie.Need-count-requires
 count-requires c κs = search needs
 
+same-length-2 : tie.Need-same-length-2
+same-length-2 c = search needs
+
+returns-2 : tie.Need-returns-2
+returns-2 c = (tt, front-stays _ (c .before .before .before .before .before .before .before .before .before .before .args .src .now) _ (c .before .before .before .before .before .before .before .before .before .before .pre))
+
 add-t7 : tie.Need-add-t7
 add-t7 c = search needs
 
@@ -54,7 +54,7 @@ same-length-3 : tie.Need-same-length-3
 same-length-3 c = search needs
 
 returns-3 : tie.Need-returns-3
-returns-3 c = ((omega arith, search needs), front-stays _ (c .before .before .before .before .before .before .before .before .before .before .args .src .now) _ (c .before .before .before .before .before .before .before .before .before .before .pre))
+returns-3 c = ((omega arith, omega arith), front-stays _ (c .before .before .before .before .before .before .before .before .before .before .args .src .now) _ (c .before .before .before .before .before .before .before .before .before .before .pre))
 
 pub read-more-spec : {M : Type 1} → statement M
 read-more-spec =
@@ -68,12 +68,12 @@ read-more-spec =
     write-all-requires
     same-length
     returns
-    same-length-2
-    returns-2
     sub-count
     part-count-start
     part-count-end
     count-requires
+    same-length-2
+    returns-2
     add-t7
     same-length-3
     returns-3)

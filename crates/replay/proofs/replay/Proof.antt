@@ -58,7 +58,7 @@ slice-aggregate-start-3 : tie.Need-slice-aggregate-start-3
 slice-aggregate-start-3 c = sym (length-take-le _ _ (asked (c .before .before .before .before) .2))
 
 start-requires : tie.Need-start-requires
-start-requires c κs = (asked (c .before .before .before .before .before .before .before .before) .3, read-inside (c .before .before .before .before .before .before .before .before .before .before .before .before .before .before))
+start-requires c κs = (asked (c .before .before .before .before .before .before .before .before) .3, read-inside (c .before .before .before .before .before .before .before .before .before .before .before .before .before .before), c .before .before .before .before .before .before .before .before .before .before .before .before .before .before .before .before .before .before .before .before .before .before .before .pre .4)
 
 enum-known-begun-2 : tie.Need-enum-known-begun-2
 enum-known-begun-2 c = search needs

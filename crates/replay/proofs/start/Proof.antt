@@ -13,7 +13,7 @@ enum-known-created c = search needs
 play-requires : tie.Need-play-requires
 play-requires c κs =
     let p = c .before .before .before .before .before .before .before .before .before .before .before .before .before .before .before .before .before .before .before .before .before .before .before .before .before .before .before .pre in
-    (p .0, p .1, omega arith)
+    ((p .0, p .1, omega arith), p .2)
 
 enum-told : tie.Need-enum-told
 enum-told c = search needs
