@@ -7,7 +7,6 @@ use Rattle.rules.specs.Ending.{Result}
 use Rattle.rules.specs.Replies.{Outcome, leavesAll}
 use Rattle.rules.specs.State.{Conn}
 use Rattle.rules.specs.Step.{Call, step}
-use Rattle.rules.specs.declared.Reply.the-variants as reply
 use Rattle.handlers.specs.declared.Answer.{Answer}
 use Rattle.table.specs.Table.{rowAt}
 use Rattle.memory.specs.Moves.{Advances}

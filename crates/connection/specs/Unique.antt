@@ -6,28 +6,16 @@ use mathlib.Core.Bool.{Bool, true, false}
 use mathlib.Core.List.{List}
 use Prim.Native.Nat.{ℕ}
 use Rattle.rules.specs.Replies.{leavesAll}
+use Rattle.memory.specs.Counts.{counted}
 use Rattle.memory.specs.Unique as memory
 use Rattle.connection.specs.Abstract.{absOf, Valid}
+use Rattle.connection.specs.Parts.{withMemory}
 use Rattle.connection.specs.declared.Connection.{Connection}
 use Rattle.connection.specs.declared.Done.{Done}
 
 -- the connection with another first free block
 abbrev pub withHead : Connection → ℕ → Connection
-withHead c b = record {
-  config = c .config;
-  rtt = c .rtt;
-  ended = c .ended;
-  «next_id» = c .«next_id»;
-  «open_wait» = c .«open_wait»;
-  growth = c .growth;
-  memory = record {
-    slots = c .memory .slots;
-    pool = c .memory .pool;
-    free = record { head = b; count = c .memory .free .count };
-    listed = c .memory .listed;
-    unread = c .memory .unread;
-  };
-}
+withHead c b = withMemory c (counted (c .memory) (record { head = b; count = c .memory .free .count }) (c .memory .listed) (c .memory .unread))
 
 -- two connections in their lent memory: one state, every field but the first free block, and every held row but its blocks
 pub record Alike (c : Connection) (t l p : List ℕ) (c′ : Connection) (t′ l′ p′ : List ℕ) : Type 0 where

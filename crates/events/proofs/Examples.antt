@@ -1,11 +1,10 @@
 -- Numbers and events of document 01 and at the edges of the format, each one computed. Assumes nothing.
 use mathlib.Core.Path.{_≡_, refl}
-use mathlib.Core.List.{List, [], _∷_}
-use Prim.Native.Nat.{ℕ}
+use mathlib.Core.List.{[], _∷_}
 use Rattle.rules.specs.Step as rules
 use Rattle.events.specs.Numbers.{groups, numberAt}
 use Rattle.events.specs.Format.{frameAt, bytesAt, countAt, slotAt, restAt, timeAt, eventAt}
-use Rattle.events.specs.Calls.{Found, call, short, bad, callAt}
+use Rattle.events.specs.Calls.{call, short, bad, callAt}
 use Rattle.events.specs.declared.Number.the-variants.{Value, Short, Bad}
 
 -- `e807`

@@ -11,7 +11,7 @@ use lib.Dec.{eqb, ltb, leb}
 use borrow.Author.Tests.{lt-ltb, le-leb, ltb-true, leb-true}
 use Rattle.events.specs.Numbers.{groups, numberAt}
 use Rattle.events.specs.Format.{after, whole, lengthAt, frameAt, bytesAt, countAt, slotAt, restAt, timeAt, eventAt}
-use Rattle.events.specs.Calls.{call, short, part, foundIn, callAt, Inside}
+use Rattle.events.specs.Calls.{short, part, foundIn, callAt, Inside}
 use Rattle.events.proofs.Inside.{event-in}
 use Rattle.events.specs.declared.Number.{Number}
 use Rattle.events.specs.declared.Number.the-variants as number

@@ -12,7 +12,7 @@ use lib.Dec.{eqb, ltb, leb}
 use borrow.Author.Tests.{lt-ltb, le-ltb, le-leb, lt-leb, ltb-true, ltb-false, leb-true, leb-false}
 use Rattle.events.specs.Numbers.{groups, numberAt}
 use Rattle.events.specs.Format.{after, whole, bounded, lengthAt, frameAt, bytesAt, countAt, slotAt, restAt, timeAt, eventAt}
-use Rattle.events.specs.Calls.{call, part, foundIn, callAt, later}
+use Rattle.events.specs.Calls.{part, foundIn, callAt, later}
 use Rattle.events.specs.declared.Number.{Number}
 use Rattle.events.specs.declared.Number.the-variants as number
 use Rattle.events.specs.declared.Event.{Event}

@@ -12,7 +12,6 @@ use Rattle.events.proofs.More.{Settles, number-more}
 use Rattle.rules.specs.declared.Settings.{Settings}
 use Rattle.events.specs.declared.Number.{Number}
 use Rattle.events.specs.declared.Number.the-variants as number
-use Rattle.events.specs.declared.Typed.{Typed}
 use Rattle.events.specs.declared.Typed.the-variants as typed
 
 -- ---- from a longer part

@@ -4,7 +4,7 @@ use mathlib.Core.Bool.{Bool, true, false, cond}
 use mathlib.Core.List.{List}
 use Prim.Native.Nat.{ℕ}
 use native.Mathlib.Omega.{arith}
-use lib.Dec.{eqb, ltb}
+use lib.Dec.{eqb}
 use lib.ListN.{length, getD}
 use Rattle.frame.specs.Header.{contains, ack, session}
 use Rattle.frame.specs.Wire.{decoded, typeOf, typedAs}
@@ -21,9 +21,8 @@ use Rattle.rtt.specs.declared.Pong.the-variants.{Accepted, Unexpected}
 use Rattle.rtt.specs.declared.Rtt.{Rtt}
 use Rattle.rules.specs.Lists.{Place, at, nowhere}
 use Rattle.rules.specs.Replies.{mayGive}
-use Rattle.rules.specs.Settings.{lastTime}
 use Rattle.rules.specs.State.{Conn, find}
-use Rattle.rules.specs.Ending.{Result, refuse}
+use Rattle.rules.specs.Ending.{refuse}
 use Rattle.rules.specs.Frames.{pingRules, isKnown, frameRules, bodyLength, onHeader}
 use Rattle.rules.specs.Step.{step, frame, timed, live, onDecoded}
 use Rattle.rules.specs.declared.Reply.{Reply}
@@ -32,7 +31,7 @@ use Rattle.rules.proofs.Lists.{both}
 use Rattle.table.specs.Table.{foundOf, Finds}
 use Rattle.table.specs.declared.Found.{Found}
 use Rattle.handlers.specs.Actions.{pongHeard, pingHeard, noAction, onPing}
-use Rattle.handlers.proofs.Rules.{heardBy, ping-performs}
+use Rattle.handlers.proofs.Rules.{ping-performs}
 use Rattle.memory.specs.Slots.{slotsOf}
 use Rattle.memory.proofs.Laws.{never, find-slots}
 use Rattle.connection.specs.Abstract.{absOf, Valid}

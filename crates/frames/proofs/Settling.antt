@@ -1,22 +1,20 @@
 -- What an action leaves of a valid connection. Assumes nothing.
 use mathlib.Core.Path.{_≡_, refl, sym, ap, _∙_}
 use mathlib.Core.Bool.{Bool, true, false}
-use mathlib.Core.List.{List, [], _++_, append-nil}
+use mathlib.Core.List.{List, append-nil}
 use Prim.Native.Nat.{ℕ, _<_}
 use native.Mathlib.Omega.{arith}
-use lib.ListN.{length, set}
-use Rattle.frame.specs.declared.header.StreamId.{StreamId}
+use lib.ListN.{length}
 use Rattle.stream.specs.declared.Stream.{Stream}
-use Rattle.rules.specs.State.{Entry, Conn, entry, vacant, isOwn, withSlot, withOpenWait}
+use Rattle.rules.specs.State.{Entry, Conn, entry, isOwn, withSlot, withOpenWait}
 use Rattle.rules.specs.Ending.{Result, gives, refuse, end}
-use Rattle.rules.specs.Frames.{newEntry}
 use Rattle.rules.specs.declared.Reply.{Reply}
 use Rattle.rules.specs.declared.Slot.{Slot}
 use Rattle.table.specs.declared.row.Row.{Row}
-use Rattle.handlers.specs.Perform.{outcomeOf, changed, perform}
+use Rattle.handlers.specs.Perform.{outcomeOf, perform}
 use Rattle.handlers.specs.declared.Answer.{Answer}
 use Rattle.handlers.specs.declared.Action.the-variants as action
-use Rattle.memory.specs.Moves.{Moved, held, Stores, Feeds, Makes}
+use Rattle.memory.specs.Moves.{Moved, held, Feeds, Makes}
 use Rattle.memory.specs.Slots.{slotsOf}
 use Rattle.memory.specs.declared.Memory.{Memory}
 use Rattle.memory.proofs.Laws.{never, slots-length}

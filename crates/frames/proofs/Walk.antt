@@ -7,15 +7,13 @@ use Rattle.rules.specs.Replies.{mayGive}
 use Rattle.frame.specs.Header.{contains, syn, fin, rst, protocolError, internalError, initialWindow}
 use Rattle.frame.specs.declared.header.Header.{Header}
 use Rattle.flow_control.specs.Windows.{top}
-use Rattle.stream.specs.Streams.{newInbound, dataTaken, updateTaken, onData, onWindowUpdate, closed}
+use Rattle.stream.specs.Streams.{dataTaken, updateTaken, closed}
 use Rattle.stream.specs.declared.Stream.{Stream}
-use Rattle.stream.specs.declared.Received.{Received}
 use Rattle.stream.specs.declared.Received.the-variants.{Taken, ProtocolError}
 use Rattle.rules.specs.State.{isRemote}
-use Rattle.rules.specs.Frames.{openedBy}
 use Rattle.rules.specs.declared.Reply.{Reply}
 use Rattle.rules.specs.declared.Slot.{Slot}
-use Rattle.handlers.specs.Actions.{onReset, terminate, unknownSyn, synAction, newAction, firstData, firstUpdate, onSynData, onSynUpdate, dataTake, updateTake, onKnownData, onKnownUpdate, stays, told}
+use Rattle.handlers.specs.Actions.{onReset, terminate, synAction, newAction, firstData, firstUpdate, onSynData, onSynUpdate, dataTake, updateTake, onKnownData, onKnownUpdate}
 use Rattle.handlers.specs.Perform.{dataAction, updateAction}
 use Rattle.handlers.specs.declared.Action.{Action}
 use Rattle.handlers.specs.declared.Action.the-variants as action

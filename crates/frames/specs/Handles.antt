@@ -1,7 +1,7 @@
 -- What the handling of a frame promises, on every input and from a valid state.
 use mathlib.Core.Path.{_≡_}
 use mathlib.Core.Bool.{Bool, true, false, cond}
-use mathlib.Core.List.{List, []}
+use mathlib.Core.List.{List}
 use Prim.Native.Nat.{ℕ, _+_, _≤_, _<_}
 use lib.ListN.{length}
 use lib.Dec.{eqb}
@@ -16,9 +16,7 @@ use Rattle.rules.specs.State.{Conn, entry, find, isOwn, withOpenWait}
 use Rattle.rules.specs.Ending.{Result, refuse, end}
 use Rattle.rules.specs.Frames.{frameRules, pingRules, bodyLength, onHeader}
 use Rattle.rules.specs.Step.{timed, live}
-use Rattle.rules.specs.declared.Reply.{Reply}
 use Rattle.rules.specs.declared.Reply.the-variants as reply
-use Rattle.rules.specs.declared.Slot.{Slot}
 use Rattle.table.specs.Table.{rowAt}
 use Rattle.table.specs.declared.row.Row.{Row}
 use Rattle.handlers.specs.Perform.{perform}

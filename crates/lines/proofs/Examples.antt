@@ -1,8 +1,7 @@
 -- Lines of document 01's worked example, each one computed. Assumes nothing.
 use mathlib.Core.Path.{_≡_, refl}
 use mathlib.Core.Bool.{true, false}
-use mathlib.Core.List.{List, [], _∷_}
-use Prim.Native.Nat.{ℕ}
+use mathlib.Core.List.{[], _∷_}
 use Rattle.rules.specs.declared.Reply.the-variants as reply
 use Rattle.rules.specs.declared.Which.the-variants as which
 use Rattle.rules.specs.declared.Value.the-variants as value

@@ -7,7 +7,6 @@ use native.Mathlib.Omega.{arith}
 use lib.ListN.{length, take, drop, drop-of-length-le}
 use lib.Seq.{length-take-le, drop-at}
 use Rattle.rules.specs.State.{Entry, entry}
-use Rattle.rules.specs.declared.Reply.the-variants as reply
 use Rattle.table.specs.declared.row.Row.{Row}
 use Rattle.handlers.specs.Locals.{performRead}
 use Rattle.handlers.specs.declared.ReadStep.{ReadStep}

@@ -1,14 +1,12 @@
 -- Pings: when one is sent, and what a pong does. Sentences are document 01's.
-use mathlib.Core.Bool.{Bool, cond}
+use mathlib.Core.Bool.{cond}
 use Prim.Native.Nat.{ℕ, _+_, _-_, _%_, min}
 use lib.Dec.{leb, eqb}
 use Rattle.frame.specs.Header.{pingSyn}
 use Rattle.rtt.specs.declared.Rtt.{Rtt}
 use Rattle.rtt.specs.declared.RttState.{RttState}
 use Rattle.rtt.specs.declared.RttState.the-variants.{Waiting, AwaitingPong}
-use Rattle.rtt.specs.declared.RoundTrip.{RoundTrip}
 use Rattle.rtt.specs.declared.RoundTrip.the-variants.{Unknown, Known}
-use Rattle.rtt.specs.declared.NextPing.{NextPing}
 use Rattle.rtt.specs.declared.NextPing.the-variants as ask
 use Rattle.rtt.specs.declared.Pinged.{Pinged}
 use Rattle.rtt.specs.declared.Pong.{Pong}

@@ -1,11 +1,10 @@
 -- Document 01's worked trace and its 'Proved examples', by computation. Assumes nothing.
 use mathlib.Core.Path.{_≡_, refl}
 use mathlib.Core.Bool.{Bool, true, false, cond}
-use mathlib.Core.List.{List, [], _∷_, map}
+use mathlib.Core.List.{List, [], _∷_}
 use Prim.Native.Nat.{ℕ, _/_, _%_}
 use lib.ListN.{getD, replicate}
 use lib.Dec.{eqb}
-use Rattle.frame.specs.declared.header.Header.{Header}
 use Rattle.frame.specs.declared.header.Tag.{Tag}
 use Rattle.frame.specs.declared.header.Tag.the-variants as tag
 use Rattle.stream.specs.declared.Sent.{Sent}
@@ -17,7 +16,6 @@ use Rattle.rules.specs.declared.Mode.{Mode}
 use Rattle.rules.specs.declared.Mode.the-variants.{Client, Server}
 use Rattle.rules.specs.declared.Reply.{Reply}
 use Rattle.rules.specs.declared.Reply.the-variants as reply
-use Rattle.rules.specs.declared.Which.{Which}
 use Rattle.rules.specs.declared.Which.the-variants as which
 use Rattle.rules.specs.declared.Value.{Value}
 use Rattle.rules.specs.declared.Value.the-variants as value

@@ -1,14 +1,13 @@
 -- "Local calls", and "Windows and pings" as far as calls. Sentences are document 01's.
-use mathlib.Core.Bool.{Bool, true, false, cond}
+use mathlib.Core.Bool.{true, false, cond}
 use mathlib.Core.List.{List, []}
 use Prim.Native.Nat.{ℕ, _+_, _-_, min}
 use lib.ListN.{length, take, drop, set}
-use lib.Dec.{eqb, ltb, leb}
+use lib.Dec.{ltb, leb}
 use Rattle.frame.specs.Header.{initialWindow}
 use Rattle.rtt.specs.Pings.{nextPing}
 use Rattle.rtt.specs.declared.NextPing.{NextPing}
 use Rattle.rtt.specs.declared.NextPing.the-variants as ask
-use Rattle.rtt.specs.declared.Pinged.{Pinged}
 use Rattle.flow_control.specs.Windows.{top}
 use Rattle.stream.specs.Streams as stream
 use Rattle.stream.specs.declared.Stream.{Stream}
@@ -18,8 +17,6 @@ use Rattle.stream.specs.declared.Reading.{Reading}
 use Rattle.stream.specs.declared.Reading.the-variants as reading
 use Rattle.stream.specs.declared.Written.{Written}
 use Rattle.stream.specs.declared.Written.the-variants as written
-use Rattle.stream.specs.declared.Closing.{Closing}
-use Rattle.stream.specs.declared.Dropped.{Dropped}
 use Rattle.stream.specs.declared.Sent.{Sent}
 use Rattle.stream.specs.declared.Sent.the-variants.{Frame, Nothing}
 use Rattle.rules.specs.declared.Reply.{Reply}

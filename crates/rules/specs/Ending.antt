@@ -1,6 +1,6 @@
 -- What ends the connection, and what that leaves. Sentences are document 01's.
-use mathlib.Core.Bool.{Bool, true, false, cond}
-use mathlib.Core.List.{List, map}
+use mathlib.Core.Bool.{true, false, cond}
+use mathlib.Core.List.{map}
 use Rattle.stream.specs.Streams.{closed, withWaits}
 use Rattle.rules.specs.declared.Reply.{Reply}
 use Rattle.rules.specs.Replies.{Outcome, bare, ending}

@@ -7,7 +7,6 @@ use lib.Dec.{eqb, ltb, leb}
 use Rattle.frame.specs.Header.{contains, syn, ack, fin, rst, session, pingHeader, goAwayHeader, withAck, protocolError, internalError, initialWindow}
 use Rattle.frame.specs.declared.header.Header.{Header}
 use Rattle.frame.specs.declared.header.StreamId.{StreamId}
-use Rattle.frame.specs.declared.header.Credit.{Credit}
 use Rattle.frame.specs.declared.header.Tag.{Tag}
 use Rattle.frame.specs.declared.header.Tag.the-variants as tag
 use Rattle.rtt.specs.Pings.{handlePong}

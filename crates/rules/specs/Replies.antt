@@ -3,7 +3,7 @@ use mathlib.Core.Bool.{Bool, true, false}
 use mathlib.Core.List.{List, []}
 use Prim.Native.Nat.{ℕ}
 use Rattle.stream.specs.declared.Sent.{Sent}
-use Rattle.stream.specs.declared.Sent.the-variants.{Frame, Nothing}
+use Rattle.stream.specs.declared.Sent.the-variants.{Nothing}
 use Rattle.rules.specs.declared.Reply.{Reply}
 use Rattle.rules.specs.declared.Reply.the-variants as reply
 use Rattle.rules.specs.declared.Which.{Which}

@@ -1,5 +1,5 @@
 -- Calls, the order of each call's replies, and a run of calls. Sentences are document 01's.
-use mathlib.Core.Bool.{Bool, true, false, cond}
+use mathlib.Core.Bool.{cond}
 use mathlib.Core.List.{List, [], _∷_}
 use Prim.Native.Nat.{ℕ, _+_}
 use lib.Dec.{ltb}
@@ -9,8 +9,8 @@ use Rattle.frame.specs.declared.header.Decoded.the-variants as found
 use Rattle.rules.specs.declared.Reply.the-variants as reply
 use Rattle.rules.specs.Settings.{lastTime}
 use Rattle.rules.specs.Replies.{Outcome}
-use Rattle.rules.specs.State.{Entry, Conn, entry}
-use Rattle.rules.specs.Ending.{Result, gives, refuse, end}
+use Rattle.rules.specs.State.{Conn, entry}
+use Rattle.rules.specs.Ending.{Result, refuse, end}
 use Rattle.rules.specs.Frames.{onHeader}
 use Rattle.rules.specs.Calls.{open-rules, readRules, writeRules, closeRules, dropRules, tickRules}
 

@@ -25,7 +25,6 @@ use Rattle.stream.specs.declared.Sent.the-variants.{Frame, Nothing}
 use Rattle.stream.specs.declared.Received.{Received}
 use Rattle.stream.specs.declared.Received.the-variants.{Taken, ProtocolError}
 use Rattle.stream.specs.declared.Woken.{Woken}
-use Rattle.stream.specs.declared.Step.{Step}
 use Rattle.stream.specs.declared.Step.the-variants.{Took, Skipped}
 use Rattle.stream.specs.declared.Updated.{Updated}
 use Rattle.stream.specs.declared.Reading.{Reading}

@@ -24,7 +24,7 @@ use Rattle.events.specs.declared.Event.{Event}
 use Rattle.events.specs.declared.Event.the-variants as event
 use Rattle.events.proofs.Inside.{event-in}
 use Rattle.lines.specs.Writing.{Stores, longestLine}
-use Rattle.trace.specs.Runs.{Ran, Room, only, headerBytes, eventLine, stopped, wrote, onFound, runs}
+use Rattle.trace.specs.Runs.{Room, only, headerBytes, eventLine, stopped, wrote, onFound, runs}
 use Rattle.trace.specs.Applies.{Lies, Applied, Applies}
 use Rattle.trace.specs.Turns.{nextOf, headerSize, shownLine, Lacks, Goes}
 use Rattle.trace.specs.declared.Stop.{Stop}

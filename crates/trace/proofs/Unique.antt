@@ -1,13 +1,12 @@
 -- Two answers that meet one run's promise are the same. Assumes nothing.
-use mathlib.Core.Path.{_≡_, sym, ap, _∙_}
-use mathlib.Core.Bool.{Bool, true, false}
+use mathlib.Core.Path.{sym, _∙_}
+use mathlib.Core.Bool.{Bool}
 use mathlib.Core.List.{List}
 use Prim.Native.Nat.{ℕ}
-use Rattle.connection.specs.Abstract.{absOf, Valid}
 use Rattle.connection.specs.declared.Connection.{Connection}
 use Rattle.trace.specs.Runs.{Ran}
 use Rattle.trace.specs.Turns.{RanAs, Runs, runsFrom}
-use Rattle.trace.specs.Unique.{SameRun, EqualRun, UniqueRun}
+use Rattle.trace.specs.Unique.{SameRun, UniqueRun}
 use Rattle.trace.specs.declared.Place.{Place}
 use Rattle.trace.specs.declared.Report.{Report}
 

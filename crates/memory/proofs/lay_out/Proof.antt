@@ -1,7 +1,6 @@
 -- `memory::lay_out` meets its contract: all rows are blank and all blocks are free. Assumes nothing.
 use borrow.Author.Needs.{needs}
 use lib.ListN.{length}
-use Rattle.table.proofs.init.Reads as init-reads′
 use Rattle.memory.proofs.Ends.{start-moves}
 use Rattle.memory.proofs.lay_out.Statement.{statement}
 use Rattle.memory.proofs.lay_out.Tie as tie

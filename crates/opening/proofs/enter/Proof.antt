@@ -3,7 +3,7 @@ use borrow.Author.Needs.{needs}
 use Rattle.opening.proofs.Opening.{shut, entered}
 use Rattle.opening.specs.Open.{Acts}
 use Rattle.handlers.specs.declared.Opening.{Opening}
-use mathlib.Core.Path.{_≡_, sym, _∙_, subst}
+use mathlib.Core.Path.{sym, _∙_, subst}
 use Rattle.opening.proofs.enter.Statement.{statement}
 use Rattle.opening.proofs.enter.Tie as tie
 

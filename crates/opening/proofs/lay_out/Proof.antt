@@ -2,7 +2,7 @@
 use borrow.Author.Needs.{needs}
 use borrow.Author.Tests.{not-true, not-false}
 use Rattle.opening.proofs.Starting.{wrong-size, right-size}
-use mathlib.Core.Path.{_≡_, sym, _∙_}
+use mathlib.Core.Path.{sym, _∙_}
 use Rattle.opening.proofs.lay_out.Statement.{statement}
 use Rattle.opening.proofs.lay_out.Tie as tie
 

@@ -1,7 +1,7 @@
 -- `opening::new` meets its contract: settings first, then what is lent. Assumes nothing.
 use borrow.Author.Needs.{needs}
 use Rattle.opening.proofs.Starting.{wrong-setting, fine-settings}
-use mathlib.Core.Path.{_≡_, sym, _∙_}
+use mathlib.Core.Path.{sym, _∙_}
 use Rattle.opening.proofs.new.Statement.{statement}
 use Rattle.opening.proofs.new.Tie as tie
 
