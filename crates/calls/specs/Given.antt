@@ -11,7 +11,7 @@ use Rattle.connection.specs.Abstract.{absOf, Valid}
 use Rattle.connection.specs.declared.Connection.{Connection}
 use Rattle.connection.specs.declared.Done.{Done}
 
--- 01: "a lent table .. or header of the wrong size", where the table and twelve bytes for a header are lent
+-- whether neither is 01's "a lent table .. or header of the wrong size", where these two are lent
 abbrev pub sentSized : Connection → ℕ → ℕ → Bool
 sentSized c n s = cond (tableFits (c .memory .slots) n) (eqb s 12) false
 

@@ -46,7 +46,7 @@ bareAnswer r all = record {
   wakes = record { reader = false; writer = false; opener = false; all = all };
 }
 
--- "a lent table, pool or header of the wrong size"
+-- whether nothing is "a lent table, pool or header of the wrong size"
 abbrev pub sized : Connection → ℕ → ℕ → ℕ → ℕ → Bool
 sized c t l p sent = cond (fits (c .memory .slots) (c .memory .pool) t l p) (eqb sent 12) false
 

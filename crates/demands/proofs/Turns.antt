@@ -40,7 +40,7 @@ use Rattle.rules.proofs.Lists.{Says, first-says}
 use Rattle.demands.specs.Demands.{and}
 use Rattle.demands.specs.History.{isDone}
 use Rattle.demands.specs.Theorems.{Gave, endedForReads, isOpen, idOf, ids, byTwo}
-use Rattle.demands.specs.Waits.{Sets, Waiting, Opens, Reads, Writes, IsWoken, WaitsAreSet, OnlyWaitsSet, AcksWakeTheOpen, wakesReader, wakesWriter, TakenWakes, WakesNone, OnlyTakenWakes}
+use Rattle.demands.specs.Waits.{Sets, Waiting, Opens, Reads, Writes, IsWoken, WaitsAreSet, OnlyWaitsSet, AcksWakeTheOpen, wakesReader, wakesWriter, TakenWakes, Unreported, OnlyTakenWakes}
 use Rattle.demands.proofs.Lists.{split, true-not-false, at-set}
 use Rattle.demands.proofs.Invariant.{Inv, in-range}
 use Rattle.demands.proofs.Steps.{sound, reached}
@@ -301,6 +301,11 @@ acks-wake-the-open c m now head body h d s e live =
     let w = acked-wakes (h .tag) c h (find (c .slots) (h .«stream_id»)) s e in
     (o .0 ∙ w .0, o .1 ∙ w .1))))
 
+-- what is so of every refusal, and of what comes behind the tests of time and ending
+tested : (P : Result → Type 0) (c : Conn) (now : ℕ) (r : Result) → ((q : Reply) → isDone q ≡ false → P (refuse c q)) → (c .ended ≡ false → P r)
+    → P (rules.timed c now (rules.live c r))
+tested P c now r f g = split P (ltb lastTime now) (λ t. f reply.Time refl) (λ t. split P (c .ended) (λ e. f reply.Closed refl) g)
+
 abbrev StreamWoken : Conn → Header → ℕ → Result → Type 0
 StreamWoken c h i r =
     r .outcome .reply ≡ reply.Done →
@@ -310,24 +315,20 @@ pub taken-wakes : TakenWakes
 unfolding step onDecoded
 taken-wakes c m now i head body h d f =
     subst (λ q. StreamWoken c h i (onDecoded q c body now)) (sym d)
-    (split (StreamWoken c h i) (ltb lastTime now) (λ t n. not-done _ refl n) (λ t.
-    split (StreamWoken c h i) (c .ended) (λ e n. not-done _ refl n) (λ live. headers c (reached m) live h body now .woken i f)))
+    (tested (StreamWoken c h i) c now _ (λ q e n. not-done q e n) (λ live. headers c (reached m) live h body now .woken i f))
 
 abbrev Unwoken : Result → Type 0
-Unwoken r = r .outcome .reply ≢ reply.Done → WakesNone (r .outcome .wakes)
+Unwoken r = r .outcome .reply ≢ reply.Done → Unreported (r .outcome .wakes)
 
 pub only-taken-wakes : OnlyTakenWakes
 unfolding step onDecoded
 only-taken-wakes c m now head body = go (decoded head)
   where
-    tested : (r : Result) → (c .ended ≡ false → Unwoken r) → Unwoken (rules.timed c now (rules.live c r))
-    tested r f = split Unwoken (ltb lastTime now) (λ t n. (refl, refl)) (λ t. split Unwoken (c .ended) (λ e n. (refl, refl)) f)
-
     go : (q : Decoded) → Unwoken (onDecoded q c body now)
     go found.Size = λ n. (refl, refl)
-    go (found.Version v) = tested _ (λ l n. (refl, refl))
-    go (found.Type t) = tested _ (λ l n. (refl, refl))
-    go (found.Header h) = tested _ (λ l. headers c (reached m) l h body now .unwoken)
+    go (found.Version v) = tested Unwoken c now _ (λ q e n. (refl, refl)) (λ l n. (refl, refl))
+    go (found.Type t) = tested Unwoken c now _ (λ q e n. (refl, refl)) (λ l n. (refl, refl))
+    go (found.Header h) = tested Unwoken c now _ (λ q e n. (refl, refl)) (λ l. headers c (reached m) l h body now .unwoken)
 
 -- ---- ids
 

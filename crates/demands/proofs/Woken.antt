@@ -30,7 +30,7 @@ use Rattle.rules.specs.Ending.{Result, gives, refuse, endEntry, ended}
 use Rattle.rules.specs.Frames.{Acked, ackStep, answer, whose, frameWakes, quiet, goAway, onReset, resetEntry, newEntry, makeAt, make, isKnown, synRules, synData, openedBy, synUpdate, takenEntry, takeAt, knownData, knownUpdate, dataRules, updateRules, unacked, pongRules, pingRules, answersPing, frameRules, bodyLength, onHeader}
 use Rattle.rules.proofs.Lists.{Says, first-says}
 use Rattle.demands.specs.History.{isDone}
-use Rattle.demands.specs.Waits.{IsWoken, Fares, hasAckStep, wakesReader, wakesWriter, WakesNone}
+use Rattle.demands.specs.Waits.{IsWoken, Fares, hasAckStep, wakesReader, wakesWriter, Unreported}
 use Rattle.demands.proofs.Lists.{split, true-not-false, at-set}
 use Rattle.demands.proofs.Invariant.{Inv}
 use Rattle.demands.proofs.Sound.{at-end}
@@ -107,7 +107,7 @@ pub record Passes (c : Conn) (a : Acked) (place : Place) (reader writer : Bool) 
   pub opener : leavesAll (r .outcome .reply) ≡ false → (r .after .openWait ≡ a .conn .openWait) × (r .outcome .wakes .opener ≡ a .woke)
   pub woken : (i : ℕ) → place ≡ at i → r .outcome .reply ≡ reply.Done →
       Woken reader writer (entry (c .slots) i .stream) (entry (r .after .slots) i .stream) (r .outcome .wakes .reader) (r .outcome .wakes .writer)
-  pub unwoken : r .outcome .reply ≢ reply.Done → WakesNone (r .outcome .wakes)
+  pub unwoken : r .outcome .reply ≢ reply.Done → Unreported (r .outcome .wakes)
 
 module _ (c : Conn) (a : Acked) (place : Place) where
   undone : (reader writer : Bool) (q : Reply) → isWait q ≡ false → isDone q ≡ false → leavesAll q ≡ true → Passes c a place reader writer (refuse c q)

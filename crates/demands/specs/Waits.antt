@@ -208,12 +208,14 @@ TakenWakes =
     Fares (wakesReader (h .tag) h) (before .reader) (after .reader) (r .outcome .wakes .reader)
     × Fares (wakesWriter (h .tag) h) (before .writer) (after .writer) (r .outcome .wakes .writer)
 
-abbrev pub WakesNone : Woke → Type 0
-WakesNone w = (w .reader ≡ false) × (w .writer ≡ false)
+-- neither a reader nor a writer is reported
+abbrev pub Unreported : Woke → Type 0
+Unreported w = (w .reader ≡ false) × (w .writer ≡ false)
 
--- A frame that is not done, one answered by a GoAway among them, wakes no reader and no writer.
+-- A frame that is not done, one answered by a GoAway among them, reports no reader and no writer: their marks stay, unless the connection ends by
+-- it (`WaitsAreReported`).
 abbrev pub OnlyTakenWakes : Type 0
 OnlyTakenWakes =
     (c : Conn) → Reach c → (now : ℕ) (head body : List ℕ) →
     let o = step c (rules.frame now head body) .outcome in
-    o .reply ≢ reply.Done → WakesNone (o .wakes)
+    o .reply ≢ reply.Done → Unreported (o .wakes)

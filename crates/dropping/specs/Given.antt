@@ -5,6 +5,6 @@ use lib.Dec.{eqb}
 use Rattle.memory.specs.Counts.{linksFit}
 use Rattle.connection.specs.declared.Connection.{Connection}
 
--- 01: "a lent table .. or header of the wrong size": table and links by the settings, and twelve bytes for a header
+-- whether none is 01's "a lent table .. or header of the wrong size": table and links by the settings, and twelve bytes for a header
 abbrev pub sized : Connection → ℕ → ℕ → ℕ → Bool
 sized c t l s = cond (linksFit (c .memory .slots) (c .memory .pool) t l) (eqb s 12) false

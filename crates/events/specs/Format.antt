@@ -92,13 +92,13 @@ frameAt s now p =
 unfoldable pub bytesAt : List ℕ → ℕ → ℕ → ℕ → ℕ → Event
 bytesAt s now slot count p = whole s (p + count) (event.Write now slot p (p + count))
 
--- "3 read slot, count (<= 16,384)"; "4 write slot, count (<= 16,384), bytes", after the slot
+-- kinds 3 and 4: "3 read slot, count (<= 16,384)"; "4 write slot, count (<= 16,384), bytes", after the slot
 unfoldable pub countAt : List ℕ → ℕ → ℕ → ℕ → ℕ → Event
 countAt s kind now slot p =
     after (numberAt s p)
     (λ count q. bounded count (cond (eqb kind 3) (event.Read now slot count q) (bytesAt s now slot count q)))
 
--- "3 read slot ..; 4 write slot ..; 5 close slot; 6 drop slot"
+-- kinds 3 to 6: "3 read slot ..; 4 write slot ..; 5 close slot; 6 drop slot"
 unfoldable pub slotAt : List ℕ → ℕ → ℕ → ℕ → Event
 slotAt s kind now p =
     after (numberAt s p)

@@ -218,7 +218,7 @@ fn put_fields(out: &mut [u8], at: usize, shown: Shown, header: &[u8], bytes: &[u
 }
 
 // The room from a place on.
-fn room_left(size: usize, at: usize) -> usize
+pub fn room_left(size: usize, at: usize) -> usize
     ensures { λ r. ⌜ r ≡ size - at ⌝ }
 {
     if at < size { size - at } else { 0 }

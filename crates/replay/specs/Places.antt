@@ -6,6 +6,7 @@ use mathlib.Core.List.{List}
 use Prim.Native.Nat.{ℕ, zero, suc, _+_, _-_, _*_, _≤_, _<_}
 use lib.ListN.{length, take}
 use Rattle.events.specs.Calls.{longest}
+use Rattle.lines.specs.Writing.{longestLine}
 use Rattle.lines.specs.declared.Put.{Put}
 use Rattle.trace.specs.Applies.{sized}
 use Rattle.trace.specs.Output.{Finishes, allowance, kept}
@@ -38,6 +39,10 @@ afterRun s r = record {
 abbrev pub Sound : ℕ → ℕ → State → Type 0
 Sound input room s = (s .at ≤ s .have) × (s .have ≤ input) × (s .put ≤ room)
 
+-- the buffers can hold the longest event and the longest line
+abbrev pub Roomy : ℕ → ℕ → Type 0
+Roomy input room = (longest ≤ input) × (longestLine ≤ room)
+
 -- 1 where there is any
 abbrev pub some : ℕ → ℕ
 some zero = 0
@@ -56,7 +61,7 @@ Nears s s′ = s′ .done ≡ false → left s′ < left s
 abbrev pub Stays : State → State → Type 0
 Stays s s′ = (s′ .connection ≡ s .connection) × (s′ .applied ≡ s .applied)
 
--- what was not taken of the input stands first in the buffer, and what was read comes after it
+-- what was not taken of the input stands first in the buffer, and what was read comes after it: a byte or more, or the input has ended
 pub record Fed (input : List ℕ) (s s′ : State) (input′ : List ℕ) : Type 0 where
   pub first : take (length (kept input (s .at) (s .have))) input′ ≡ kept input (s .at) (s .have)
   pub more : length (kept input (s .at) (s .have)) ≤ s′ .have
@@ -66,9 +71,9 @@ pub record Fed (input : List ℕ) (s s′ : State) (input′ : List ℕ) : Type 
   pub stays : Stays s s′
   pub nears : s′ .done ≡ false → (s′ .ended ≡ true) ⊎ (length (kept input (s .at) (s .have)) < s′ .have)
 
--- the last line of a run that stopped so, `left` bytes being left, stands at the start of the room
+-- the last line of a run that stopped so, `rest` bytes being left, stands at the start of the room
 abbrev pub Closes : Stop → ℕ → ℕ → ℕ → List ℕ → List ℕ → Type 0
-Closes why left applied growth room room′ = (r : Put) × Finishes why left applied growth room 0 room′ r
+Closes why rest applied growth room room′ = (r : Put) × Finishes why rest applied growth room 0 room′ r
 
 -- all is done, with its last line
 abbrev pub Ends : Stop → State → List ℕ → State → List ℕ → Type 0

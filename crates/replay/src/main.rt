@@ -2,11 +2,11 @@
 mod room;
 
 ghost use mathlib.Core.Path.{_≡_};
-ghost use Prim.Native.Nat.{_≤_};
+ghost use Prim.Native.Nat.{_≤_, _<_};
 ghost use lib.ListN.{length, take};
-ghost use Rattle.lines.specs.Writing.{longestLine};
+ghost use Rattle.trace.specs.Output.{kept};
 ghost use Rattle.trace.specs.Turns.{Lacks};
-ghost use Rattle.replay.specs.Places.{placeOf, afterRun, Sound, Nears, Stays, Fed, Closes, Ends, GoesOn, Played, Inside};
+ghost use Rattle.replay.specs.Places.{placeOf, afterRun, Sound, Roomy, Nears, Stays, Fed, Closes, Ends, GoesOn, Played, Inside};
 use connection::Connection;
 use lines::Put;
 use opening::Created;
@@ -39,7 +39,7 @@ const ALLOWANCE: u64 = 1000000;
 
 // Reads once, after the first bytes of the buffer.
 fn read_more(src: &mut [u8], have: usize) -> Got
-    requires { ⌜ have ≤ length (now src) ⌝ }
+    requires { ⌜ have < length (now src) ⌝ }
     ensures { λ r. ⌜ Inside have (length (now (src .entry))) r ⌝ }
     ensures { λ _. ⌜ take have (now (src .exit)) ≡ take have (now (src .entry)) ⌝ }
 {
@@ -97,6 +97,7 @@ fn flush(state: State, out: &[u8]) -> State
 
 // Moves what is left of the input to the front of the buffer, and reads more.
 fn feed(state: State, src: &mut [u8]) -> State
+    requires { ⌜ length (kept (now src) (state .at) (state .have)) < length (now src) ⌝ }
     ensures { λ r. ⌜ Fed (now (src .entry)) state r (now (src .exit)) ⌝ }
 {
     let kept = trace::keep_rest(src, state.at, state.have);
@@ -160,7 +161,7 @@ fn finish(state: State, stop: Stop, out: &mut [u8]) -> State
 // What follows a run that stopped so.
 fn go_on(state: State, stop: Stop, src: &mut [u8], out: &mut [u8]) -> State
     requires { ⌜ Sound (length (now src)) (length (now out)) state ⌝ }
-    requires { ⌜ longestLine ≤ length (now out) ⌝ }
+    requires { ⌜ Roomy (length (now src)) (length (now out)) ⌝ }
     requires { ⌜ Lacks stop (state .have) (state .at) (length (now out)) (state .put) ⌝ }
     ensures { λ r. ⌜ Sound (length (now (src .entry))) (length (now (out .entry))) r ⌝ }
     ensures { λ r. ⌜ Stays state r ⌝ }
@@ -219,7 +220,7 @@ fn turn(
     out: &mut [u8],
 ) -> State
     requires { ⌜ Sound (length (now src)) (length (now out)) state ⌝ }
-    requires { ⌜ longestLine ≤ length (now out) ⌝ }
+    requires { ⌜ Roomy (length (now src)) (length (now out)) ⌝ }
     ensures { λ r. ⌜ Sound (length (now (src .entry))) (length (now (out .entry))) r ⌝ }
     ensures { λ r. ⌜ Nears state r ⌝ }
     ensures { λ r. ⌜ Played state (now (table .entry)) (now (links .entry)) (now (pool .entry)) (now (sent .entry)) (now (bytes .entry)) (now (src .entry)) (now (out .entry)) r (now (table .exit)) (now (links .exit)) (now (pool .exit)) (now (src .exit)) (now (out .exit)) ⌝ }
@@ -256,7 +257,7 @@ fn play(
     out: &mut [u8],
 )
     requires { ⌜ Sound (length (now src)) (length (now out)) start ⌝ }
-    requires { ⌜ longestLine ≤ length (now out) ⌝ }
+    requires { ⌜ Roomy (length (now src)) (length (now out)) ⌝ }
 {
     let mut state = start;
     while !state.done {
@@ -285,7 +286,7 @@ fn start(
     at: usize,
     have: usize,
 )
-    requires { ⌜ (at ≤ have) × (have ≤ length (now src)) × (longestLine ≤ length (now out)) ⌝ }
+    requires { ⌜ (at ≤ have) × (have ≤ length (now src)) × Roomy (length (now src)) (length (now out)) ⌝ }
 {
     let created = opening::new(settings, table, links, pool);
     match created {
@@ -307,7 +308,9 @@ fn start(
 }
 
 // Settings that the input ends within, unless it cannot be read.
-fn cut_short(src: &mut [u8], out: &mut [u8]) {
+fn cut_short(src: &mut [u8], out: &mut [u8])
+    requires { ⌜ 0 < length (now src) ⌝ }
+{
     let got = read_more(src, 0);
     match got {
         Got::More(_) => only_line(Stop::Bad, out),
@@ -317,7 +320,9 @@ fn cut_short(src: &mut [u8], out: &mut [u8]) {
 }
 
 // Why no event is reached.
-fn reject(stop: Stop, src: &mut [u8], out: &mut [u8]) {
+fn reject(stop: Stop, src: &mut [u8], out: &mut [u8])
+    requires { ⌜ 0 < length (now src) ⌝ }
+{
     match stop {
         Stop::Short => cut_short(src, out),
         _ => only_line(stop, out),
@@ -342,7 +347,7 @@ fn replay(
     src: &mut [u8],
     out: &mut [u8],
 )
-    requires { ⌜ (2700 ≤ length (now table)) × (616 ≤ length (now links)) × (630784 ≤ length (now pool)) × (100 ≤ length (now src)) × (longestLine ≤ length (now out)) ⌝ }
+    requires { ⌜ (2700 ≤ length (now table)) × (616 ≤ length (now links)) × (630784 ≤ length (now pool)) × Roomy (length (now src)) (length (now out)) ⌝ }
 {
     let have = read_first(src);
     let begun = trace::begin(&src[..have]);

@@ -84,7 +84,6 @@ module _ (c : Connection) (t l p s o : List ℕ) (place : Place) (allowance : �
   unmoved : Bounds s o place allowance (place .at) (place .applied) (place .put)
   unmoved = record {
     counted = omega arith;
-    allowed = λ h. h;
     forward = omega arith;
     inside = λ h. h;
     written = omega arith;
@@ -158,7 +157,6 @@ module _ (c : Connection) (t l p s o : List ℕ) (place : Place) (allowance : �
       turned sent bytes sent′ bytes′ sent″ bytes″ e x k = record {
         bounds = record {
           counted = omega (arith, x .bounds .counted);
-          allowed = λ w. omega arith;
           forward = omega (arith, x .bounds .forward, k .forward);
           inside = λ w. k .inside;
           written = omega (arith, x .bounds .written, k .written);

@@ -56,6 +56,6 @@ Carried (Gone now next) = ⊥
 Carried Short = Unit {0}
 Carried Bad = Unit {0}
 
--- what every call tests of what is lent, and room for 16,384 bytes read
+-- all that calls test of what is lent, and room for 16,384 bytes read
 abbrev pub sized : Connection → ℕ → ℕ → ℕ → ℕ → ℕ → Bool
 sized c t l p sent bytes = cond (connection.sized c t l p sent) (eqb bytes 16384) false

@@ -56,7 +56,7 @@ shownLine n d sent bytes =
     (take (min (d .read) (length bytes)) bytes)
 
 -- what a run that stops so lacks, on every input of `size` bytes and in `room` bytes for lines: fewer bytes are left than the longest event
--- takes, or less room than the longest line takes
+-- takes, or less room than the longest line takes; of the other reasons nothing is said
 abbrev pub Lacks : Stop → ℕ → ℕ → ℕ → ℕ → Type 0
 Lacks stop.Short size at room put = size < at + longest
 Lacks stop.Full size at room put = room - put < longestLine
@@ -119,7 +119,6 @@ runsFrom c t l p s o place allowance =
 -- it applied an event.
 pub record Bounds (s o : List ℕ) (place : Place) (allowance at applied put : ℕ) : Type 0 where
   pub counted : place .applied ≤ applied
-  pub allowed : place .applied ≤ allowance → applied ≤ allowance
   pub forward : place .at ≤ at
   pub inside : place .at ≤ length s → at ≤ length s
   pub written : place .put ≤ put

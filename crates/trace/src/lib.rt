@@ -73,16 +73,6 @@ fn sized(c: Connection, table: usize, links: usize, pool: usize, sent: usize, by
     false
 }
 
-// The room from a place on.
-fn room(size: usize, put: usize) -> usize
-    ensures { λ r. ⌜ r ≡ size - put ⌝ }
-{
-    if size < put {
-        return 0;
-    }
-    size - put
-}
-
 fn after(event: Event) -> Next
     ensures { λ r. ⌜ r ≡ nextOf event ⌝ }
 {
@@ -190,7 +180,7 @@ fn turn(
     match found {
         Next::Stop(stop) => Turned::Stop(stop),
         Next::At(at) => {
-            let left = room(out.len(), place.put);
+            let left = lines::room_left(out.len(), place.put);
             if left < LONGEST_LINE {
                 return Turned::Stop(Stop::Full);
             }

@@ -12,7 +12,7 @@ keep-rest-requires : tie.Need-keep-rest-requires
 keep-rest-requires c κs = search needs
 
 read-more-requires : tie.Need-read-more-requires
-read-more-requires c κs = search needs
+read-more-requires c κs = omega arith
 
 enum-known-got : tie.Need-enum-known-got
 enum-known-got c = search needs

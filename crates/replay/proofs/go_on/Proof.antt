@@ -58,7 +58,11 @@ returns c =
     (inside (length (a .src .now)) (length (a .out .now)) (a .state) (f .result) (p .0) (f .ensures .0 .0) (f .ensures .0 .1) (f .ensures .0 .2), (f .ensures .0 .3, (rw q (λ x. never (sym (c .before .before .before .before .if1 .taken) ∙ x), λ x. e), λ n. never (sym (e .0) ∙ n))))
 
 feed-requires : tie.Need-feed-requires
-feed-requires c κs = search needs
+feed-requires c κs =
+    let a = c .before .before .before .before .before .before .args in
+    let p = c .before .before .before .before .before .before .pre in
+    let n = kept-length (a .src .now) (a .state .at) (a .state .have) (p .0 .0) (p .0 .1) in
+    omega (arith, n, rw (c .before .before .enum-told2 .given .1) at (p .1 .1), p .1 .0 .0)
 
 finish-requires-2 : tie.Need-finish-requires-2
 finish-requires-2 c κs = search needs
@@ -72,7 +76,7 @@ returns-2 c =
     let p = c .before .before .before .before .before .before .pre in
     let k = c .flush in
     let q = c .before .before .enum-told .given .1 in
-    (inside (length (a .src .now)) (length (a .out .now)) (a .state) (k .result) (p .0) (k .ensures .0) (k .ensures .1) (k .ensures .2), (k .ensures .4, (rw q (k .ensures .0, k .ensures .1, k .ensures .3, refl, refl), λ n. flushed (a .state) (k .result) (length (a .out .now)) (p .1 .0) (rw q at (p .1 .1)) (k .ensures .4 .1) (k .ensures .0) (k .ensures .1) (k .ensures .2) (k .ensures .3))))
+    (inside (length (a .src .now)) (length (a .out .now)) (a .state) (k .result) (p .0) (k .ensures .0) (k .ensures .1) (k .ensures .2), (k .ensures .4, (rw q (k .ensures .0, k .ensures .1, k .ensures .3, refl, refl), λ n. flushed (a .state) (k .result) (length (a .out .now)) (p .1 .0 .1) (rw q at (p .1 .1)) (k .ensures .4 .1) (k .ensures .0) (k .ensures .1) (k .ensures .2) (k .ensures .3))))
 
 same-length-3 : tie.Need-same-length-3
 same-length-3 c = search needs

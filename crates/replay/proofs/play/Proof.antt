@@ -1,10 +1,8 @@
 -- `replay::play` is safe and ends. The loop's invariant: the places are inside the buffers, which keep their sizes. The measure is
 -- what is left to do. Assumes nothing.
 use mathlib.Core.Path.{_≡_, refl, _∙_}
-use Prim.Native.Nat.{_≤_}
 use lib.ListN.{length}
-use Rattle.lines.specs.Writing.{longestLine}
-use Rattle.replay.specs.Places.{Sound}
+use Rattle.replay.specs.Places.{Sound, Roomy}
 use Rattle.replay.proofs.Nearing.{turnsLeft, sinks}
 use borrow.Author.Needs.{needs}
 use borrow.Author.Tests.{not-true}
@@ -15,7 +13,7 @@ use Rattle.replay.proofs.play.Tie as tie
 abbrev Inv-loop : tie.InvT-loop
 Inv-loop table₀ links₀ pool₀ sent₀ bytes₀ src₀ out₀ state₀ table links pool sent bytes src out state =
     Sound (length src) (length out) state
-    × (longestLine ≤ length out)
+    × Roomy (length src) (length out)
     × (length table ≡ length table₀)
     × (length links ≡ length links₀)
     × (length pool ≡ length pool₀)
@@ -47,7 +45,7 @@ loop-again c =
     let k = c .before .before .before .before .before .before .before .before .before .before .before .before .before .before .turn in
     let v = c .before .before .before .before .before .before .before .before .before .before .before .before .before .before .before .before .before .before .before .before .before .before .before .before .loop .inv in (
       (k .ensures .0 .0, omega (arith, k .ensures .0 .1, k .kept .1 .1 .1 .1 .1 .1 .0), omega (arith, k .ensures .0 .2, k .kept .1 .1 .1 .1 .1 .1 .1 .0)),
-      omega (arith, v .1, k .kept .1 .1 .1 .1 .1 .1 .1 .0),
+      (omega (arith, v .1 .0, k .kept .1 .1 .1 .1 .1 .1 .0), omega (arith, v .1 .1, k .kept .1 .1 .1 .1 .1 .1 .1 .0)),
       k .kept .1 .0 ∙ v .2,
       k .kept .1 .1 .0 ∙ v .3,
       k .kept .1 .1 .1 .0 ∙ v .4,

@@ -27,7 +27,7 @@ same-length : tie.Need-same-length
 same-length c = search needs
 
 returns : tie.Need-returns
-returns c = (tt, front-stays _ (c .before .before .before .before .before .before .before .before .args .src .now) _ (c .before .before .before .before .before .before .before .before .pre))
+returns c = (tt, front-stays (c .before .before .before .before .before .before .before .before .args .have) (c .before .before .before .before .before .before .before .before .args .src .now) _ (omega (arith, c .before .before .before .before .before .before .before .before .pre)))
 
 sub-count : tie.Need-sub-count
 sub-count c = search needs
@@ -45,7 +45,7 @@ same-length-2 : tie.Need-same-length-2
 same-length-2 c = search needs
 
 returns-2 : tie.Need-returns-2
-returns-2 c = (tt, front-stays _ (c .before .before .before .before .before .before .before .before .before .before .args .src .now) _ (c .before .before .before .before .before .before .before .before .before .before .pre))
+returns-2 c = (tt, front-stays (c .before .before .before .before .before .before .before .before .before .before .args .have) (c .before .before .before .before .before .before .before .before .before .before .args .src .now) _ (omega (arith, c .before .before .before .before .before .before .before .before .before .before .pre)))
 
 add-t7 : tie.Need-add-t7
 add-t7 c = search needs
@@ -54,7 +54,7 @@ same-length-3 : tie.Need-same-length-3
 same-length-3 c = search needs
 
 returns-3 : tie.Need-returns-3
-returns-3 c = ((omega arith, omega arith), front-stays _ (c .before .before .before .before .before .before .before .before .before .before .args .src .now) _ (c .before .before .before .before .before .before .before .before .before .before .pre))
+returns-3 c = ((omega arith, omega arith), front-stays (c .before .before .before .before .before .before .before .before .before .before .args .have) (c .before .before .before .before .before .before .before .before .before .before .args .src .now) _ (omega (arith, c .before .before .before .before .before .before .before .before .before .before .pre)))
 
 pub read-more-spec : {M : Type 1} → statement M
 read-more-spec =

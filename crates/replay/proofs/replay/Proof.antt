@@ -58,7 +58,9 @@ slice-aggregate-start-3 : tie.Need-slice-aggregate-start-3
 slice-aggregate-start-3 c = sym (length-take-le _ _ (asked (c .before .before .before .before) .2))
 
 start-requires : tie.Need-start-requires
-start-requires c κs = (asked (c .before .before .before .before .before .before .before .before) .3, read-inside (c .before .before .before .before .before .before .before .before .before .before .before .before .before .before), c .before .before .before .before .before .before .before .before .before .before .before .before .before .before .before .before .before .before .before .before .before .before .before .pre .4)
+start-requires c κs =
+    let p = c .before .before .before .before .before .before .before .before .before .before .before .before .before .before .before .before .before .before .before .before .before .before .before .pre in
+    (asked (c .before .before .before .before .before .before .before .before) .3, read-inside (c .before .before .before .before .before .before .before .before .before .before .before .before .before .before), (omega (arith, p .3 .0, c .before .before .before .before .before .before .before .before .before .before .before .before .before .before .read-first .kept .0), p .3 .1))
 
 enum-known-begun-2 : tie.Need-enum-known-begun-2
 enum-known-begun-2 c = search needs

@@ -34,7 +34,7 @@ go-on-requires c κs =
     let room = k .kept .1 .1 .1 .1 .1 .1 .1 .0 in
     rw (c .before .before .after-run .ensures) (
       (omega (arith, b .inside (omega (arith, n, p .0 .0)), n), p .0 .1, omega (arith, b .room (p .0 .2), room)),
-      (omega (arith, p .1, room), lacks-as (k .result .stop) (length (take (a .state .have) (a .src .now))) (k .result .place .at) (length (a .out .now)) (k .result .place .put) n (sym room) (k .ensures .0 .lacks)),
+      ((p .1 .0, omega (arith, p .1 .1, room)), lacks-as (k .result .stop) (length (take (a .state .have) (a .src .now))) (k .result .place .at) (length (a .out .now)) (k .result .place .put) n (sym room) (k .ensures .0 .lacks)),
     )
 
 same-length : tie.Need-same-length

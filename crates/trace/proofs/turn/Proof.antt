@@ -22,14 +22,14 @@ enum-known-found c = search needs
 enum-known-found-2 : tie.Need-enum-known-found-2
 enum-known-found-2 c = search needs
 
-room-requires : tie.Need-room-requires
-room-requires c κs = search needs
+room-left-requires : tie.Need-room-left-requires
+room-left-requires c κs = search needs
 
 returns : tie.Need-returns
 returns c =
     let a = c .before .before .before .before .before .before .before .before .before .before .before .before .before .before .args in
     let h = ap nextOf (sym (c .before .before .before .before .before .before .read-event .ensures)) ∙ sym (c .before .before .before .before .before .after .ensures) ∙ c .before .before .before .found2 .given .1 in
-    let l = rw (c .before .room .ensures) at (c .if1 .taken) in
+    let l = rw (c .before .room-left .ensures) at (c .if1 .taken) in
     record { table = refl; links = refl; pool = refl; out = refl; stops = λ x k n. full-halts (a .src .now) (a .place .at) _ h _ l x k n; lacks = l }
 
 apply-requires : tie.Need-apply-requires
@@ -44,7 +44,7 @@ show-requires : tie.Need-show-requires
 show-requires c κs =
     let s = c .before .before .before .before .before .before .before .before .before .before .before .before .before .before .before .before .before .before .before .before .before .before .before .before .before .before .before .before .before .before .before .before .before .before in
     let k = c .before .before .before .before .before .before .before .before .before .before .before .before .before .before .apply in
-    let r = c .before .before .before .before .before .before .before .before .before .before .before .before .before .before .before .before .before .before .before .before .before .room .ensures in
+    let r = c .before .before .before .before .before .before .before .before .before .before .before .before .before .before .before .before .before .before .before .before .before .room-left .ensures in
     let l = c .before .before .before .before .before .before .before .before .before .before .before .before .before .before .before .before .before .before .before .before .if1 .left in
     (k .kept .1 .1 .1 .1 .0 ∙ s .pre .0, k .kept .1 .1 .1 .1 .1 .0 ∙ s .pre .1, omega (arith, r, l))
 
@@ -79,7 +79,7 @@ returns-3 c =
     let h = ap nextOf (sym (c .before .before .before .before .before .before .before .before .before .before .before .before .before .before .before .before .before .before .before .before .before .before .before .before .before .before .before .before .before .before .read-event .ensures)) ∙ sym (c .before .before .before .before .before .before .before .before .before .before .before .before .before .before .before .before .before .before .before .before .before .before .before .before .before .before .before .before .before .after .ensures) ∙ c .before .before .before .before .before .before .before .before .before .before .before .before .before .before .before .before .before .before .before .before .before .before .before .before .before .before .before .found2 .given .1 in
     let k = c .before .before .before .before .before .before .before .before .before .before .before .before .before .before .before .before .before .before .apply in
     let w = c .before .before .before .show in
-    let room = rw (c .before .before .before .before .before .before .before .before .before .before .before .before .before .before .before .before .before .before .before .before .before .before .before .before .before .room .ensures) at (c .before .before .before .before .before .before .before .before .before .before .before .before .before .before .before .before .before .before .before .before .before .before .before .before .if1 .left) in
+    let room = rw (c .before .before .before .before .before .before .before .before .before .before .before .before .before .before .before .before .before .before .before .before .before .before .before .before .before .room-left .ensures) at (c .before .before .before .before .before .before .before .before .before .before .before .before .before .before .before .before .before .before .before .before .before .before .before .before .if1 .left) in
     let e = rw (c .before .before .before .before .before .before .before .before .before .before .before .before .before .before .before .before .before .before .before .before .before .before .before .before .before .before .before .before .before .before .read-event .ensures) at (k .ensures) in (
       refl,
       goes (a .c) (a .table .now) (a .links .now) (a .pool .now) (a .sent .now) (a .src .now) (a .place .at) (a .place .applied + 1) (a .out .now) (a .place .put) _ _ (k .result) _ _ _ _ _ _
@@ -94,7 +94,7 @@ turn-spec =
     after-requires
     enum-known-found
     enum-known-found-2
-    room-requires
+    room-left-requires
     returns
     apply-requires
     add-applied
