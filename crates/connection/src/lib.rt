@@ -20,14 +20,15 @@ use stream::Sent;
 use table::Found;
 use table::row::Row;
 
+// The marks come last: a gap before a wide field would be copied by pieces at every call.
 pub struct Connection {
     pub config: Config,
     pub rtt: Rtt,
-    pub ended: bool,
-    pub next_id: u32,
-    pub open_wait: bool,
     pub growth: u64,
     pub memory: Memory,
+    pub next_id: u32,
+    pub open_wait: bool,
+    pub ended: bool,
 }
 
 // The connection after a call, what the call answers, and how many bytes it put into the lent output.

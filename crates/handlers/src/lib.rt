@@ -25,13 +25,13 @@ use rules::Woke;
 use stream::Sent;
 use stream::Stream;
 
-// What a call answers, but for bytes: a body and bytes read stand in lent memory.
+// What a call answers, but for bytes: a body and bytes read stand in lent memory. The narrow parts come last, as in `Connection`.
 pub struct Answer {
-    pub reply: Reply,
     pub slot: Which,
     pub value: Value,
     pub sent: Sent,
     pub wakes: Woke,
+    pub reply: Reply,
 }
 
 // The frame's stream in the table, as the ACK step left it.
