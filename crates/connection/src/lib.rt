@@ -55,69 +55,31 @@ impl Connection {
     pub fn with_memory(self, memory: Memory) -> Connection
         ensures { λ r. ⌜ r ≡ withMemory self memory ⌝ }
     {
-        let config = self.config;
-        let rtt = self.rtt;
-        Connection {
-            config,
-            rtt,
-            ended: self.ended,
-            next_id: self.next_id,
-            open_wait: self.open_wait,
-            growth: self.growth,
-            memory,
-        }
+        Connection { memory, ..self }
     }
 
     // The same connection with another growth figure.
     pub fn with_growth(self, growth: u64) -> Connection
         ensures { λ r. ⌜ r ≡ withGrowth self growth ⌝ }
     {
-        let config = self.config;
-        let rtt = self.rtt;
-        let memory = self.memory;
-        Connection {
-            config,
-            rtt,
-            ended: self.ended,
-            next_id: self.next_id,
-            open_wait: self.open_wait,
-            growth,
-            memory,
-        }
+        Connection { growth, ..self }
     }
 
     // The same connection with other pings.
     pub fn with_rtt(self, rtt: Rtt) -> Connection
         ensures { λ r. ⌜ r ≡ withRtt self rtt ⌝ }
     {
-        let config = self.config;
-        let memory = self.memory;
-        Connection {
-            config,
-            rtt,
-            ended: self.ended,
-            next_id: self.next_id,
-            open_wait: self.open_wait,
-            growth: self.growth,
-            memory,
-        }
+        Connection { rtt, ..self }
     }
 
     // The same connection with another next id and open wait.
     pub fn with_opens(self, next_id: u32, open_wait: bool) -> Connection
         ensures { λ r. ⌜ r ≡ withOpens self «next_id» «open_wait» ⌝ }
     {
-        let config = self.config;
-        let rtt = self.rtt;
-        let memory = self.memory;
         Connection {
-            config,
-            rtt,
-            ended: self.ended,
             next_id,
             open_wait,
-            growth: self.growth,
-            memory,
+            ..self
         }
     }
 }
@@ -245,17 +207,12 @@ pub fn put(sent: &mut [u8], frame: Sent)
 pub fn end(c: Connection, table: &mut [u64], reply: Reply) -> Done
     ensures { λ r. ⌜ Over c (now (table .entry)) reply r (now (table .exit)) ⌝ }
 {
-    let config = c.config;
-    let rtt = c.rtt;
     let memory = c.memory.end_all(table);
     let connection = Connection {
-        config,
-        rtt,
         ended: true,
-        next_id: c.next_id,
         open_wait: false,
-        growth: c.growth,
         memory,
+        ..c
     };
     let answer = bare(reply, true);
     answered(connection, answer)

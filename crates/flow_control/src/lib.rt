@@ -216,10 +216,8 @@ impl FlowController {
         ensures { λ r. ⌜ r ≡ withSend self «send_window» ⌝ }
     {
         FlowController {
-            last_window_update: self.last_window_update,
-            receive_window: self.receive_window,
-            max_receive_window: self.max_receive_window,
             send_window,
+            ..self
         }
     }
 
@@ -265,10 +263,8 @@ impl FlowController {
             };
         }
         let flow = FlowController {
-            last_window_update: self.last_window_update,
             receive_window: self.receive_window - i,
-            max_receive_window: self.max_receive_window,
-            send_window: self.send_window,
+            ..self
         };
         Settled {
             flow,

@@ -83,15 +83,10 @@ fn flush(state: State, out: &[u8]) -> State
 {
     let put = state.put;
     let written = write_out(&out[..put]);
-    let connection = state.connection;
     State {
-        connection,
-        applied: state.applied,
-        at: state.at,
-        have: state.have,
         put: 0,
-        ended: state.ended,
         done: !written,
+        ..state
     }
 }
 
@@ -101,35 +96,28 @@ fn feed(state: State, src: &mut [u8]) -> State
     ensures { λ r. ⌜ Fed (now (src .entry)) state r (now (src .exit)) ⌝ }
 {
     let kept = trace::keep_rest(src, state.at, state.have);
-    let connection = state.connection;
     let got = read_more(src, kept);
     match got {
         Got::More(have) => State {
-            connection,
-            applied: state.applied,
             at: 0,
             have,
-            put: state.put,
             ended: false,
             done: false,
+            ..state
         },
         Got::End => State {
-            connection,
-            applied: state.applied,
             at: 0,
             have: kept,
-            put: state.put,
             ended: true,
             done: false,
+            ..state
         },
         Got::Failed => State {
-            connection,
-            applied: state.applied,
             at: 0,
             have: kept,
-            put: state.put,
             ended: true,
             done: true,
+            ..state
         },
     }
 }
@@ -148,13 +136,9 @@ fn finish(state: State, stop: Stop, out: &mut [u8]) -> State
         write_put(&out[..], put);
     }
     State {
-        connection,
-        applied: state.applied,
-        at: state.at,
-        have: state.have,
         put: 0,
-        ended: state.ended,
         done: true,
+        ..state
     }
 }
 
@@ -201,10 +185,9 @@ fn after_run(state: State, report: Report) -> State
         connection,
         applied: here.applied,
         at: here.at,
-        have: state.have,
         put: here.put,
-        ended: state.ended,
         done: false,
+        ..state
     }
 }
 

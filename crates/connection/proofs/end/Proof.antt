@@ -20,7 +20,7 @@ same-length c = search needs
 returns : tie.Need-returns
 returns c =
     let a = c .before .before .before .before .before .before .before .before .before .args in
-    let e = c .before .before .before .before .end-all in
+    let e = c .before .before .before .before .before .before .end-all in
     rw (c .answered .ensures, c .before .bare .ensures) (record {
       answer = refl;
       read = refl;

@@ -30,8 +30,8 @@ returns : tie.Need-returns
 returns c =
     let a = c .before .before .before .before .before .before .before .before .before .before .before .before .before .args in
     let k = c .before .before .before .before .before .before .before .before .before .before .keep-rest in
-    let m = c .before .before .before .before .before .read-more in
-    let e = rw (c .before .got .given .1) at (m .ensures .0) in
+    let m = c .before .before .before .before .before .before .read-more in
+    let e = rw (c .before .before .got .given .1) at (m .ensures .0) in
     feeds (a .state) (a .src .now) (k .last .0) (k .ensures .0) (k .ensures .1 .0) (m .ensures .1) (omega (arith, e .0)) (omega (arith, e .1, k .kept .0)) (λ live. inr (e .0))
 
 same-length-2 : tie.Need-same-length-2
@@ -41,7 +41,7 @@ returns-2 : tie.Need-returns-2
 returns-2 c =
     let a = c .before .before .before .before .before .before .before .before .before .before .before .before .args in
     let k = c .before .before .before .before .before .before .before .before .before .keep-rest in
-    let m = c .before .before .before .before .read-more in
+    let m = c .before .before .before .before .before .read-more in
     feeds (a .state) (a .src .now) (k .last .0) (k .ensures .0) (k .ensures .1 .0) (m .ensures .1) (omega arith) (k .ensures .1 .1) (λ live. inl refl)
 
 same-length-3 : tie.Need-same-length-3
@@ -51,7 +51,7 @@ returns-3 : tie.Need-returns-3
 returns-3 c =
     let a = c .before .before .before .before .before .before .before .before .before .before .before .before .args in
     let k = c .before .before .before .before .before .before .before .before .before .keep-rest in
-    let m = c .before .before .before .before .read-more in
+    let m = c .before .before .before .before .before .read-more in
     feeds (a .state) (a .src .now) (k .last .0) (k .ensures .0) (k .ensures .1 .0) (m .ensures .1) (omega arith) (k .ensures .1 .1) (λ done. never done)
 
 pub feed-spec : {M : Type 1} → statement M
