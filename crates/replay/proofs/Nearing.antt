@@ -8,8 +8,8 @@ use native.Mathlib.Omega.{arith}
 use lib.ListN.{length, drop, length-drop}
 use lib.Seq.{length-take-le}
 use borrow.Author.Tests.{le-leb}
-use Rattle.events.specs.Calls.{longest}
-use Rattle.lines.specs.Writing.{longestLine}
+use Rattle.trace_events.specs.Calls.{longest}
+use Rattle.trace_lines.specs.Writing.{longestLine}
 use Rattle.trace.specs.Output.{allowance, kept}
 use Rattle.trace.specs.Turns.{Lacks}
 use Rattle.trace.specs.declared.Report.{Report}

@@ -13,11 +13,11 @@ use Rattle.rules.specs.declared.Settings.{Settings}
 use Rattle.rules.specs.declared.Config.{Config}
 use Rattle.rules.specs.declared.Checked.{Checked}
 use Rattle.rules.specs.declared.Checked.the-variants as settings
-use Rattle.events.specs.Format.{settingsAt}
-use Rattle.events.specs.Calls.{TypedIn}
-use Rattle.events.specs.declared.Typed.{Typed}
-use Rattle.events.specs.declared.Typed.the-variants as typed
-use Rattle.events.proofs.Settings.{settings-in}
+use Rattle.trace_events.specs.Format.{settingsAt}
+use Rattle.trace_events.specs.Calls.{TypedIn}
+use Rattle.trace_events.specs.declared.Typed.{Typed}
+use Rattle.trace_events.specs.declared.Typed.the-variants as typed
+use Rattle.trace_events.proofs.Settings.{settings-in}
 use Rattle.trace.specs.Output.{isSmall, sizesOf, judgedAs, begunAs}
 use Rattle.trace.specs.declared.Stop.the-variants as stop
 use Rattle.trace.specs.declared.ends.Sizes.{Sizes}

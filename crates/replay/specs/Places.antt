@@ -5,9 +5,9 @@ use mathlib.Core.Logic.{_⊎_}
 use mathlib.Core.List.{List}
 use Prim.Native.Nat.{ℕ, zero, suc, _+_, _-_, _*_, _≤_, _<_}
 use lib.ListN.{length, take}
-use Rattle.events.specs.Calls.{longest}
-use Rattle.lines.specs.Writing.{longestLine}
-use Rattle.lines.specs.declared.Put.{Put}
+use Rattle.trace_events.specs.Calls.{longest}
+use Rattle.trace_lines.specs.Writing.{longestLine}
+use Rattle.trace_lines.specs.declared.Put.{Put}
 use Rattle.trace.specs.Applies.{sized}
 use Rattle.trace.specs.Output.{Finishes, allowance, kept}
 use Rattle.trace.specs.Turns.{Runs}

@@ -8,8 +8,8 @@ ghost use Rattle.trace.specs.Output.{kept};
 ghost use Rattle.trace.specs.Turns.{Lacks};
 ghost use Rattle.replay.specs.Places.{placeOf, afterRun, Sound, Roomy, Nears, Stays, Fed, Closes, Ends, GoesOn, Played, Inside};
 use connection::Connection;
-use lines::Put;
-use opening::Created;
+use trace_lines::Put;
+use connection_open::Created;
 use rules::Settings;
 use trace::Begun;
 use trace::Place;
@@ -271,7 +271,7 @@ fn start(
 )
     requires { ⌜ (at ≤ have) × (have ≤ length (now src)) × Roomy (length (now src)) (length (now out)) ⌝ }
 {
-    let created = opening::new(settings, table, links, pool);
+    let created = connection_open::new(settings, table, links, pool);
     match created {
         Created::Made(connection) => {
             let state = State {

@@ -21,18 +21,18 @@ use Rattle.connection.specs.Promises as connection
 use Rattle.connection.specs.Promises.{Promised, Follows, sentAfter, outAfter}
 use Rattle.connection.specs.declared.Connection.{Connection}
 use Rattle.connection.specs.declared.Done.{Done}
-use Rattle.calls.specs.Given.{sentSized}
-use Rattle.dropping.specs.Given as dropping
-use Rattle.frames.specs.Handles as frames
+use Rattle.connection_write.specs.Given.{sentSized}
+use Rattle.connection_drop.specs.Given as dropping
+use Rattle.connection_frame.specs.Handles as frames
 use Rattle.rules.specs.Calls.{readRules, writeRules, closeRules, dropRules}
 use Rattle.stream.specs.declared.Sent.{Sent}
-use Rattle.reading.specs.Promises as reading
-use Rattle.events.specs.Calls.{Found, call, short, bad, part, foundIn}
+use Rattle.connection_read.specs.Promises as reading
+use Rattle.trace_events.specs.Calls.{Found, call, short, bad, part, foundIn}
 use types.Run.{OneOf, miss}
 use denote.Enum.Declared.{tagOf}
-use Rattle.events.proofs.Event.{the-type}
-use Rattle.events.specs.declared.Event.{Event}
-use Rattle.events.specs.declared.Event.the-variants as event
+use Rattle.trace_events.proofs.Event.{the-type}
+use Rattle.trace_events.specs.declared.Event.{Event}
+use Rattle.trace_events.specs.declared.Event.the-variants as event
 use Rattle.trace.specs.Applies.{slotOf, Carried, Applied, Applies}
 use Rattle.trace.proofs.Silent.{Silent, Headless, tick-silent, frame-silent, open-silent, open-headless, gone-silent, gone-headless, write-silent, close-silent, drop-silent}
 

@@ -11,13 +11,13 @@ use lib.ListN.{length, drop, length-append}
 use lib.Seq.{drop-append-le}
 use Rattle.rules.specs.State.{Conn}
 use Rattle.rules.specs.Step.{Call, step}
-use Rattle.events.specs.Format.{eventAt}
-use Rattle.events.specs.Calls.{Found, call, short, bad, foundIn, callAt, later, Inside}
-use Rattle.events.specs.declared.Event.{Event}
-use Rattle.events.specs.declared.Event.the-variants as event
-use Rattle.events.proofs.Inside.{event-in}
-use Rattle.events.proofs.More.{Settles, call-more}
-use Rattle.events.proofs.Moved.{call-later}
+use Rattle.trace_events.specs.Format.{eventAt}
+use Rattle.trace_events.specs.Calls.{Found, call, short, bad, foundIn, callAt, later, Inside}
+use Rattle.trace_events.specs.declared.Event.{Event}
+use Rattle.trace_events.specs.declared.Event.the-variants as event
+use Rattle.trace_events.proofs.Inside.{event-in}
+use Rattle.trace_events.proofs.More.{Settles, call-more}
+use Rattle.trace_events.proofs.Moved.{call-later}
 use Rattle.trace.specs.declared.Stop.{Stop}
 use Rattle.trace.specs.declared.Stop.the-variants as stop
 use Rattle.trace.specs.Runs.{Ran, Room, endless, isFull, less, eventLine, stopped, wrote, onFound, runs, onward, shifted, Part, joined, feeds}

@@ -14,7 +14,7 @@ use Rattle.rules.proofs.Lists.{both}
 use Rattle.connection.specs.Abstract.{absOf, Valid}
 use Rattle.connection.specs.Promises as connection
 use Rattle.connection.specs.declared.Connection.{Connection}
-use Rattle.lines.proofs.Stored.{sets-then}
+use Rattle.trace_lines.proofs.Stored.{sets-then}
 use Rattle.memory.specs.Counts.{fits}
 use Rattle.memory.proofs.Laws.{never}
 use Rattle.trace.specs.Applies.{sized}

@@ -8,10 +8,10 @@ use lib.Seq.{sets-eq, length-take-le}
 use Rattle.stream.specs.declared.Sent.{Sent}
 use Rattle.stream.specs.declared.Sent.the-variants.{Frame, Nothing}
 use Rattle.connection.specs.declared.Done.{Done}
-use Rattle.lines.specs.Writing.{Stores, Writes, placed, lineRoom, longestLine}
-use Rattle.lines.specs.declared.Put.{Put}
-use Rattle.lines.specs.declared.Put.the-variants.{At, Full}
-use Rattle.lines.proofs.Laws.{line-written}
+use Rattle.trace_lines.specs.Writing.{Stores, Writes, placed, lineRoom, longestLine}
+use Rattle.trace_lines.specs.declared.Put.{Put}
+use Rattle.trace_lines.specs.declared.Put.the-variants.{At, Full}
+use Rattle.trace_lines.proofs.Laws.{line-written}
 use Rattle.trace.specs.Turns.{headerSize, shownLine}
 
 -- what is placed in a room without changing its length fits into it

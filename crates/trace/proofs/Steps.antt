@@ -7,7 +7,7 @@ use native.Mathlib.Numerals.{add-one}
 use lib.ListN.{length}
 use Rattle.rules.specs.State.{Conn}
 use Rattle.rules.specs.Step.{Call, step, run}
-use Rattle.events.specs.Calls.{Found, call, short, bad, callAt}
+use Rattle.trace_events.specs.Calls.{Found, call, short, bad, callAt}
 use Rattle.trace.specs.declared.Stop.{Stop}
 use Rattle.trace.specs.declared.Stop.the-variants as stop
 use Rattle.trace.specs.Runs.{Ran, Room, endless, isFull, less, eventLine, stopped, wrote, onFound, runs, readsOn, reads, linesOf}

@@ -18,12 +18,12 @@ use Rattle.connection.specs.Abstract.{absOf, Valid}
 use Rattle.connection.specs.Promises.{Says, sentAfter}
 use Rattle.connection.specs.declared.Connection.{Connection}
 use Rattle.connection.specs.declared.Done.{Done}
-use Rattle.events.specs.Format.{eventAt}
-use Rattle.events.specs.Calls.{call, part, foundIn, callAt, Inside}
-use Rattle.events.specs.declared.Event.{Event}
-use Rattle.events.specs.declared.Event.the-variants as event
-use Rattle.events.proofs.Inside.{event-in}
-use Rattle.lines.specs.Writing.{Stores, longestLine}
+use Rattle.trace_events.specs.Format.{eventAt}
+use Rattle.trace_events.specs.Calls.{call, part, foundIn, callAt, Inside}
+use Rattle.trace_events.specs.declared.Event.{Event}
+use Rattle.trace_events.specs.declared.Event.the-variants as event
+use Rattle.trace_events.proofs.Inside.{event-in}
+use Rattle.trace_lines.specs.Writing.{Stores, longestLine}
 use Rattle.trace.specs.Runs.{Room, only, headerBytes, eventLine, stopped, wrote, onFound, runs}
 use Rattle.trace.specs.Applies.{Lies, Applied, Applies}
 use Rattle.trace.specs.Turns.{nextOf, headerSize, shownLine, Lacks, Goes}

@@ -14,13 +14,13 @@ use Rattle.rules.specs.declared.Settings.{Settings}
 use Rattle.rules.specs.declared.Config.{Config}
 use Rattle.rules.specs.declared.Setting.{Setting}
 use Rattle.rules.specs.declared.Checked.the-variants as settings
-use Rattle.events.specs.Format.{settingsAt}
-use Rattle.events.specs.Calls.{TypedIn}
-use Rattle.events.specs.declared.Typed.{Typed}
-use Rattle.events.specs.declared.Typed.the-variants as typed
-use Rattle.events.proofs.More.{Settles}
-use Rattle.events.proofs.Settings.{settings-more, settings-in}
-use Rattle.lines.specs.Line.{badLine, configLine}
+use Rattle.trace_events.specs.Format.{settingsAt}
+use Rattle.trace_events.specs.Calls.{TypedIn}
+use Rattle.trace_events.specs.declared.Typed.{Typed}
+use Rattle.trace_events.specs.declared.Typed.the-variants as typed
+use Rattle.trace_events.proofs.More.{Settles}
+use Rattle.trace_events.proofs.Settings.{settings-more, settings-in}
+use Rattle.trace_lines.specs.Line.{badLine, configLine}
 use Rattle.trace.specs.Runs.{Ran, endless, runs, shifted, Part, joined, feeds}
 use Rattle.trace.specs.Output.{isSmall, lastLine, allowance, printed, output}
 use Rattle.trace.proofs.Parts.{runs-from, in-parts}

@@ -11,9 +11,9 @@ use Rattle.connection.specs.Promises as connection
 use Rattle.connection.specs.Promises.{Follows, sentAfter}
 use Rattle.connection.specs.declared.Connection.{Connection}
 use Rattle.connection.specs.declared.Done.{Done}
-use Rattle.events.specs.Calls.{call, foundIn}
-use Rattle.events.specs.declared.Event.{Event}
-use Rattle.events.specs.declared.Event.the-variants.{Tick, Frame, Open, Read, Write, Close, Drop, Gone, Short, Bad}
+use Rattle.trace_events.specs.Calls.{call, foundIn}
+use Rattle.trace_events.specs.declared.Event.{Event}
+use Rattle.trace_events.specs.declared.Event.the-variants.{Tick, Frame, Open, Read, Write, Close, Drop, Gone, Short, Bad}
 
 -- the slot of this number, or one above every K: both are not held
 abbrev pub slotOf : ℕ → ℕ

@@ -13,13 +13,13 @@ use Rattle.rules.specs.declared.Settings.{Settings}
 use Rattle.rules.specs.declared.Config.{Config}
 use Rattle.rules.specs.declared.Checked.{Checked}
 use Rattle.rules.specs.declared.Checked.the-variants as settings
-use Rattle.events.specs.Format.{settingsAt}
-use Rattle.events.specs.declared.Typed.{Typed}
-use Rattle.events.specs.declared.Typed.the-variants as typed
-use Rattle.lines.specs.Line.{endLine, badLine, configLine}
-use Rattle.lines.specs.Writing.{Writes, lastRoom}
-use Rattle.lines.specs.declared.Put.{Put}
-use Rattle.lines.specs.declared.Put.the-variants as put
+use Rattle.trace_events.specs.Format.{settingsAt}
+use Rattle.trace_events.specs.declared.Typed.{Typed}
+use Rattle.trace_events.specs.declared.Typed.the-variants as typed
+use Rattle.trace_lines.specs.Line.{endLine, badLine, configLine}
+use Rattle.trace_lines.specs.Writing.{Writes, lastRoom}
+use Rattle.trace_lines.specs.declared.Put.{Put}
+use Rattle.trace_lines.specs.declared.Put.the-variants as put
 use Rattle.trace.specs.Runs.{Ran, endless, runs}
 use Rattle.trace.specs.declared.Stop.{Stop}
 use Rattle.trace.specs.declared.Stop.the-variants as stop

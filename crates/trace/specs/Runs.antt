@@ -10,9 +10,9 @@ use Rattle.stream.specs.declared.Sent.the-variants.{Frame, Nothing}
 use Rattle.rules.specs.Replies.{Outcome}
 use Rattle.rules.specs.State.{Conn}
 use Rattle.rules.specs.Step.{Call, step}
-use Rattle.events.specs.Calls.{Found, call, short, bad, callAt}
-use Rattle.lines.specs.Line.{lineOf, shownOf}
-use Rattle.lines.specs.Writing.{longestLine}
+use Rattle.trace_events.specs.Calls.{Found, call, short, bad, callAt}
+use Rattle.trace_lines.specs.Line.{lineOf, shownOf}
+use Rattle.trace_lines.specs.Writing.{longestLine}
 use Rattle.trace.specs.declared.Stop.{Stop}
 use Rattle.trace.specs.declared.Stop.the-variants as stop
 

@@ -12,11 +12,11 @@ use Rattle.rules.specs.State.{Conn}
 use Rattle.connection.specs.Abstract.{absOf, Valid}
 use Rattle.connection.specs.declared.Connection.{Connection}
 use Rattle.connection.specs.declared.Done.{Done}
-use Rattle.events.specs.Calls.{longest}
-use Rattle.events.specs.declared.Event.{Event}
-use Rattle.events.specs.declared.Event.the-variants as event
-use Rattle.lines.specs.Line.{lineOf}
-use Rattle.lines.specs.Writing.{longestLine}
+use Rattle.trace_events.specs.Calls.{longest}
+use Rattle.trace_events.specs.declared.Event.{Event}
+use Rattle.trace_events.specs.declared.Event.the-variants as event
+use Rattle.trace_lines.specs.Line.{lineOf}
+use Rattle.trace_lines.specs.Writing.{longestLine}
 use Rattle.trace.specs.Runs.{Ran, only, stopped, wrote, runs, resumed}
 use Rattle.trace.specs.declared.Stop.{Stop}
 use Rattle.trace.specs.declared.Stop.the-variants as stop

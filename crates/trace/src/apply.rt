@@ -4,7 +4,7 @@ ghost use lib.ListN.{length};
 ghost use Rattle.trace.specs.Applies.{slotOf, Lies, Carried, Applies};
 use connection::Connection;
 use connection::Done;
-use events::Event;
+use trace_events::Event;
 use rules::Reply;
 use rules::Slot;
 
@@ -43,7 +43,7 @@ fn carry(
         } => {
             let front = &src[head..body];
             let rest = &src[body..next];
-            frames::on_frame(c, table, links, pool, sent, front, rest, now)
+            connection_frame::on_frame(c, table, links, pool, sent, front, rest, now)
         }
         Event::Read {
             now,
@@ -53,7 +53,7 @@ fn carry(
         } => {
             let handle = slot_of(slot);
             let room = &mut bytes[..count];
-            reading::read(c, table, links, &pool[..], sent, handle, room, now)
+            connection_read::read(c, table, links, &pool[..], sent, handle, room, now)
         }
         _ => connection::refuse(c, Reply::Size),
     }
@@ -74,8 +74,8 @@ pub(crate) fn apply(
     ensures { λ r. ⌜ Applies c (now (table .entry)) (now (links .entry)) (now (pool .entry)) (now (sent .entry)) (now (src .entry)) event r (now (table .exit)) (now (links .exit)) (now (pool .exit)) (now (sent .exit)) (now (bytes .exit)) ⌝ }
 {
     match event {
-        Event::Tick { now, next: _ } => calls::tick(c, &table[..], sent, now),
-        Event::Open { now, next: _ } => opening::open(c, table, links, pool, now),
+        Event::Tick { now, next: _ } => connection_write::tick(c, &table[..], sent, now),
+        Event::Open { now, next: _ } => connection_open::open(c, table, links, pool, now),
         Event::Write {
             now,
             slot,
@@ -83,17 +83,17 @@ pub(crate) fn apply(
             next,
         } => {
             let handle = slot_of(slot);
-            calls::write(c, table, sent, handle, &src[start..next], now)
+            connection_write::write(c, table, sent, handle, &src[start..next], now)
         }
         Event::Close { now, slot, next: _ } => {
             let handle = slot_of(slot);
-            calls::close(c, table, sent, handle, now)
+            connection_write::close(c, table, sent, handle, now)
         }
         Event::Drop { now, slot, next: _ } => {
             let handle = slot_of(slot);
-            dropping::drop_handle(c, table, links, sent, handle, now)
+            connection_drop::drop_handle(c, table, links, sent, handle, now)
         }
-        Event::Gone { now, next: _ } => calls::peer_gone(c, table, now),
+        Event::Gone { now, next: _ } => connection_write::peer_gone(c, table, now),
         _ => carry(c, table, links, pool, sent, bytes, src, event),
     }
 }

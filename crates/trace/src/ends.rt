@@ -4,11 +4,11 @@ ghost use mathlib.Core.List.{_++_};
 ghost use Prim.Native.Nat.{_≤_};
 ghost use lib.ListN.{length, drop};
 ghost use Rattle.rules.specs.Settings.{checked};
-ghost use Rattle.events.specs.Format.{settingsAt};
+ghost use Rattle.trace_events.specs.Format.{settingsAt};
 ghost use Rattle.trace.specs.Output.{sizesOf, judgedAs, begunAs, Finishes, kept};
 use crate::Stop;
-use events::Typed;
-use lines::Put;
+use trace_events::Typed;
+use trace_lines::Put;
 use rules::Checked;
 use rules::Config;
 use rules::Settings;
@@ -65,7 +65,7 @@ fn judge(settings: Settings, next: usize) -> Begun
 pub fn begin(src: &[u8]) -> Begun
     ensures { λ r. ⌜ r ≡ begunAs (settingsAt (now (src .entry))) ⌝ }
 {
-    let typed = events::read_settings(src);
+    let typed = trace_events::read_settings(src);
     match typed {
         Typed::Settings(settings, next) => judge(settings, next),
         Typed::Short => Begun::Stop(Stop::Short),
@@ -81,14 +81,14 @@ pub fn finish(out: &mut [u8], put: usize, stop: Stop, left: usize, applied: u64,
     match stop {
         Stop::Short => {
             if 0 < left {
-                return lines::bad_line(out, put, applied);
+                return trace_lines::bad_line(out, put, applied);
             }
-            lines::end_line(out, put, applied, growth)
+            trace_lines::end_line(out, put, applied, growth)
         }
-        Stop::Bad => lines::bad_line(out, put, applied),
-        Stop::Spent => lines::end_line(out, put, applied, growth),
+        Stop::Bad => trace_lines::bad_line(out, put, applied),
+        Stop::Spent => trace_lines::end_line(out, put, applied, growth),
         Stop::Full => Put::Full,
-        Stop::Refused => lines::config_line(out, put),
+        Stop::Refused => trace_lines::config_line(out, put),
     }
 }
 

@@ -11,16 +11,16 @@ ghost use mathlib.Core.Path.{_≡_};
 ghost use mathlib.Core.Bool.{true};
 ghost use Prim.Native.Nat.{_+_, _-_, _≤_, _<_, min};
 ghost use lib.ListN.{length};
-ghost use Rattle.lines.specs.Writing.{Stores, longestLine};
+ghost use Rattle.trace_lines.specs.Writing.{Stores, longestLine};
 ghost use Rattle.trace.specs.Applies.{sized};
 ghost use Rattle.trace.specs.Turns.{nextOf, headerSize, shownLine, Turns, stoppedAt, Runs, Untouched};
 use connection::Connection;
 use connection::Done;
-use events::Event;
+use trace_events::Event;
 use frame::header::HEADER_SIZE;
-use lines::LONGEST_LINE;
-use lines::Put;
-use lines::Shown;
+use trace_lines::LONGEST_LINE;
+use trace_lines::Put;
+use trace_lines::Shown;
 use stream::Sent;
 
 // Why a run stopped: the input ends before or within an event; the next event is unreadable; the allowance is used up; there
@@ -153,7 +153,7 @@ fn show(done: Done, sent: &[u8], bytes: &[u8], number: u64, out: &mut [u8], put:
         value,
         wakes,
     };
-    let written = lines::line(out, put, shown, &sent[..header], &bytes[..read]);
+    let written = trace_lines::line(out, put, shown, &sent[..header], &bytes[..read]);
     match written {
         Put::At(end) => end,
         Put::Full => put,
@@ -175,12 +175,12 @@ fn turn(
     requires { ⌜ (length (now sent) ≡ 12) × (length (now bytes) ≡ 16384) × (place .applied < 18446744073709551615) ⌝ }
     ensures { λ r. ⌜ Turns c (now (table .entry)) (now (links .entry)) (now (pool .entry)) (now (src .entry)) (now (out .entry)) place r (now (table .exit)) (now (links .exit)) (now (pool .exit)) (now (out .exit)) ⌝ }
 {
-    let event = events::read_event(src, place.at);
+    let event = trace_events::read_event(src, place.at);
     let found = after(event);
     match found {
         Next::Stop(stop) => Turned::Stop(stop),
         Next::At(at) => {
-            let left = lines::room_left(out.len(), place.put);
+            let left = trace_lines::room_left(out.len(), place.put);
             if left < LONGEST_LINE {
                 return Turned::Stop(Stop::Full);
             }

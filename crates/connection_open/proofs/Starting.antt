@@ -1,0 +1,125 @@
+-- A connection made in memory that is laid out anew is valid, and in the rules' initial state. Assumes nothing.
+use mathlib.Core.Path.{_≡_, refl, sym, ap, _∙_}
+use mathlib.Core.Bool.{Bool, true, false}
+use mathlib.Core.List.{List}
+use Prim.Native.Nat.{ℕ, zero, suc, _*_}
+use native.Mathlib.Omega.{arith}
+use borrow.Author.Tests.{leb-true}
+use lib.Dec.{leb}
+use lib.ListN.{length, replicate}
+use Rattle.frame.specs.Header.{initialWindow}
+use Rattle.rules.specs.Settings.{lastTime, within, require, configOf, checkedLast, checked}
+use Rattle.rules.specs.State.{Entry, entry, vacant, firstOwn, isOwn}
+use Rattle.rules.specs.declared.Settings.{Settings}
+use Rattle.rules.specs.declared.Setting.{Setting}
+use Rattle.rules.specs.declared.Setting.the-variants as setting
+use Rattle.rules.specs.declared.Config.{Config}
+use Rattle.rules.specs.declared.Checked.{Checked}
+use Rattle.rules.specs.declared.Checked.the-variants as settings
+use Rattle.rules.specs.declared.Mode.{Mode}
+use Rattle.rules.specs.declared.Mode.the-variants.{Client, Server}
+use Rattle.memory.specs.Moves.{Starts}
+use Rattle.memory.specs.Slots.{slotsOf, Sized}
+use Rattle.memory.specs.declared.Memory.{Memory}
+use Rattle.rules.proofs.Lists.{both}
+use Rattle.memory.proofs.Laws.{never, fits-sized}
+use Rattle.connection.specs.Abstract.{absOf, Fresh}
+use Rattle.connection_open.specs.Start.{sized, started, Begins, Ranged, Lays, Creates}
+use Rattle.connection_open.specs.declared.Created.{Created}
+use Rattle.connection_open.specs.declared.Created.the-variants.{Made, Wrong, Size}
+
+-- ---- accepted settings are in range
+
+passed : (b : Bool) (w : Setting) (next : Checked) (k : Config) → require b w next ≡ settings.Fine k → (b ≡ true) × (next ≡ settings.Fine k)
+passed true w next k e = (refl, e)
+passed false w next k e = never (let z : true ≡ false = cc in z)
+
+last-ranged : (s : Settings) (k : Config) → checkedLast s ≡ settings.Fine k → Ranged k
+last-ranged s k e =
+    let a = passed (leb (s .«first_time») lastTime) setting.FirstTime _ k e in
+    let b = passed (leb (s .«first_id») 4294967295) setting.FirstId _ k (a .1) in
+    let n = passed (within 1 1024 (s .slots)) setting.Slots _ k (b .1) in
+    let m = passed (leb (s .«max_num_streams») (s .slots)) setting.Slots _ k (n .1) in
+    let p = passed (leb (s .pool) 4294967295) setting.Pool _ k (m .1) in
+    let w = both (leb 1 (s .slots)) (leb (s .slots) 1024) (n .0) in
+    let low = leb-true 1 (s .slots) (w .0) in
+    let high = leb-true (s .slots) 1024 (w .1) in
+    let pool = leb-true (s .pool) 4294967295 (p .0) in
+    let same : configOf s ≡ k = cc in
+    rw (sym same) (record { some = low; most = high; pooled = omega arith })
+
+pub fine-ranged : (s : Settings) (k : Config) → checked s ≡ settings.Fine k → Ranged k
+fine-ranged s k e =
+    let a = passed (leb (s .mode) 1) setting.Mode _ k e in
+    let b = passed (leb (s .«max_num_streams») 512) setting.Streams _ k (a .1) in
+    let d = passed (leb (s .«max_num_streams» * initialWindow) (s .limit)) setting.Limit _ k (b .1) in
+    let f = passed (leb (s .«read_after_close») 1) setting.ReadAfterClose _ k (d .1) in
+    let g = passed (within 1 4294967295 (s .split)) setting.Split _ k (f .1) in
+    let h = passed (within 1 lastTime (s .interval)) setting.Interval _ k (g .1) in
+    last-ranged s k (h .1)
+
+-- ---- nothing is in the table yet
+
+first-parity : (mode : Mode) → isOwn mode (record { 0 = firstOwn mode }) ≡ true
+first-parity Client = refl
+first-parity Server = refl
+
+pub entry-replicate : (n i : ℕ) → entry (replicate n vacant) i ≡ vacant
+entry-replicate zero i = refl
+entry-replicate (suc n) zero = refl
+entry-replicate (suc n) (suc i) = entry-replicate n i
+
+module _ (k : Config) (m : Memory) (t l p : List ℕ) (ranged : Ranged k) (s : Starts (k .slots) (k .pool) m t l) (e : sized k (length t) (length l) (length p) ≡ true) where
+  laid : Sized m t l p
+  laid =
+      fits-sized m t l p (rw (s .slots) (ranged .some)) (rw (s .slots) (ranged .most)) (rw (s .pool) (ranged .pooled))
+      (rw (s .slots, s .pool) e)
+
+  none : (i : ℕ) → entry (slotsOf m t l p) i ≡ vacant
+  none i = rw (s .vacant p laid) (entry-replicate (k .slots) i)
+
+  fresh : Fresh (absOf (started k m) t l p)
+  fresh = record {
+    parity = first-parity (k .mode);
+    below = λ i h o. never (sym h ∙ ap (λ (x : Entry). x .listed) (none i));
+  }
+
+  pub begins : Begins k (Made (started k m)) t l p
+  begins = (
+    record { memory = s .valid p laid; slots = s .slots; pool = s .pool; fresh = fresh },
+    rw (s .vacant p laid),
+  )
+
+module _ (k : Config) (t l p : List ℕ) where
+  pub wrong-size : sized k (length t) (length l) (length p) ≡ false → Lays k t l p Size t l p
+  wrong-size e = record { sizes = λ h. (refl, refl, refl); made = λ h r. never (sym h ∙ e); pool = refl }
+
+  pub right-size : (m : Memory) (t′ l′ : List ℕ) → length t′ ≡ length t → length l′ ≡ length l → sized k (length t) (length l) (length p) ≡ true
+      → Starts (k .slots) (k .pool) m t′ l′ → Lays k t l p (Made (started k m)) t′ l′ p
+  right-size m t′ l′ n o e s = record {
+    sizes = λ h. never (sym e ∙ h);
+    made = λ h r. begins k m t′ l′ p r s (rw (n, o) e);
+    pool = refl;
+  }
+
+-- ---- settings first, then sizes
+
+clash : {A : Type 0} (c : Checked) (w : Setting) (k : Config) → c ≡ settings.Wrong w → c ≡ settings.Fine k → A
+clash c w k e h = never (let z : true ≡ false = cc in z)
+
+module _ (s : Settings) (t l p : List ℕ) where
+  pub wrong-setting : (w : Setting) → checked s ≡ settings.Wrong w → Creates s t l p (Wrong w) t l p
+  wrong-setting w e = record {
+    wrong = λ x h. (let z : w ≡ x = cc in ap Wrong z, refl, refl);
+    sizes = λ k h b. clash (checked s) w k e h;
+    made = λ k h b. clash (checked s) w k e h;
+    pool = refl;
+  }
+
+  pub fine-settings : (k : Config) → checked s ≡ settings.Fine k → (r : Created) (t′ l′ p′ : List ℕ) → Lays k t l p r t′ l′ p′ → Creates s t l p r t′ l′ p′
+  fine-settings k e r t′ l′ p′ d = record {
+    wrong = λ w h. clash (checked s) w k h e;
+    sizes = λ x h b. let z : x ≡ k = cc in d .sizes (rw (sym z) b);
+    made = λ x h b. let z : x ≡ k = cc in rw z (d .made (rw (sym z) b) (fine-ranged s k e));
+    pool = d .pool;
+  }

@@ -1,0 +1,60 @@
+-- `reading::take` meets its contract: the front of the lent output is all that the drain is lent. Assumes nothing.
+use mathlib.Core.Path.{sym}
+use borrow.Author.Needs.{needs}
+use lib.Seq.{length-take-le}
+use Rattle.connection_read.proofs.Draws.{take-reads}
+use Rattle.connection_read.proofs.take.Statement.{statement}
+use Rattle.connection_read.proofs.take.Tie as tie
+
+cast-n : tie.Need-cast-n
+cast-n c = search needs
+
+slice-relend-prefix-drain : tie.Need-slice-relend-prefix-drain
+slice-relend-prefix-drain c = search needs
+
+slice-aggregate-drain : tie.Need-slice-aggregate-drain
+slice-aggregate-drain c =
+    let s = c .before .before .before .before .before .before .before .before .before in
+    sym (length-take-le (s .args .step .count) (s .args .out .now) (s .pre))
+
+drain-requires : tie.Need-drain-requires
+drain-requires c κs = search needs
+
+with-growth-requires : tie.Need-with-growth-requires
+with-growth-requires c κs = search needs
+
+with-memory-requires : tie.Need-with-memory-requires
+with-memory-requires c κs = search needs
+
+same-length : tie.Need-same-length
+same-length c = search needs
+
+same-length-2 : tie.Need-same-length-2
+same-length-2 c = search needs
+
+same-length-3 : tie.Need-same-length-3
+same-length-3 c = search needs
+
+returns : tie.Need-returns
+returns c gives draws =
+    let s = c .before .before .before .before .before .before .before .before .before .before .before .before .before .before .before .before .before .before .before in
+    let a = s .args in
+    let d = c .before .before .before .before .before .before .before .before .before .drain in
+    rw (c .before .with-memory .ensures, c .before .before .with-growth .ensures)
+    (take-reads (a .c) (a .table .now) (a .links .now) (a .pool .now) (a .slot .0) (a .step) (d .result .memory) (d .last .1 .0) (d .last .1 .1 .0)
+    (a .row) gives draws (a .out .now) (s .pre) (d .last .1 .1 .1 .1 .1 .1 .1 .0) (d .kept .1 .1 .1 .1 .1 .1 .1 .0) (d .result .count) (d .ensures))
+
+pub take-spec : {M : Type 1} → statement M
+take-spec =
+    tie.close
+    (tie.spec
+    cast-n
+    slice-relend-prefix-drain
+    slice-aggregate-drain
+    drain-requires
+    with-growth-requires
+    with-memory-requires
+    same-length
+    same-length-2
+    same-length-3
+    returns)
