@@ -1,22 +1,18 @@
--- How a call comes to its promise: by a wrong size, by a refusal, or by following the rule. Assumes nothing.
+-- How a call comes to its promise: by a wrong size, by a refusal, or by a rule that is handled. Assumes nothing.
 use mathlib.Core.Path.{_≡_, refl, sym, _∙_}
 use mathlib.Core.Bool.{Bool, true, false}
 use mathlib.Core.List.{List}
 use Prim.Native.Nat.{ℕ}
-use Rattle.rtt.specs.declared.Rtt.{Rtt}
-use Rattle.rules.specs.State.{withPings, withOpenWait}
-use Rattle.rules.specs.Ending.{refuse, gives}
+use Rattle.rules.specs.State.{Conn}
+use Rattle.rules.specs.Ending.{Result, refuse}
 use Rattle.rules.specs.Replies.{leavesAll, mayGive}
 use Rattle.rules.specs.Step.{Call, step}
 use Rattle.rules.specs.declared.Reply.{Reply}
 use Rattle.rules.specs.declared.Reply.the-variants as reply
-use Rattle.handlers.specs.Perform.{outcomeOf}
-use Rattle.handlers.specs.declared.Answer.{Answer}
 use Rattle.memory.proofs.Laws.{never}
 use Rattle.memory.proofs.Starts.{nothing-advances}
 use Rattle.connection.specs.Abstract.{absOf, Valid}
-use Rattle.connection.specs.Parts.{withRtt, withOpens, answered}
-use Rattle.connection.specs.Promises.{refused, Gives, Follows, Promised}
+use Rattle.connection.specs.Promises.{refused, Gives, Follows, Handles, Promised}
 use Rattle.connection.specs.declared.Connection.{Connection}
 use Rattle.connection.specs.declared.Done.{Done}
 
@@ -42,8 +38,26 @@ giving-leaves reply.Size h = never (sym h)
 pub refused-gives : (c : Connection) (r : Reply) (s : List ℕ) → Gives (refused c r) s s
 refused-gives c r s = record { header = refl; silent = λ e. (refl, refl) }
 
+-- a rule that is another from a valid state
+pub same-handles : (c : Connection) (t l p : List ℕ) (rule rule′ : Conn → Result) (d : Done) (t′ l′ p′ : List ℕ)
+    → (Valid c t l p → rule′ (absOf c t l p) ≡ rule (absOf c t l p)) → Handles rule c t l p d t′ l′ p′ → Handles rule′ c t l p d t′ l′ p′
+same-handles c t l p rule rule′ d t′ l′ p′ same h = record {
+  steps = λ v. rw (same v) (h .steps v);
+  refuses = h .refuses;
+  silent = h .silent;
+}
+
+-- what is done is no refusal
+pub acted : (c : Connection) (t l p : List ℕ) (rule : Conn → Result) (d : Done) (t′ l′ p′ : List ℕ) → mayGive (d .answer .reply) ≡ true
+    → (Valid c t l p → Follows c t l p (rule (absOf c t l p)) d t′ l′ p′) → Handles rule c t l p d t′ l′ p′
+acted c t l p rule d t′ l′ p′ given f = record {
+  steps = f;
+  refuses = λ e. never (sym e ∙ giving-leaves (d .answer .reply) given);
+  silent = λ e. never (sym given ∙ e);
+}
+
 module _ (c : Connection) (t l p : List ℕ) where
-  pub refuse-follows : (r : Reply) → Valid c t l p → Follows c t l p (refuse (absOf c t l p) r) (refused c r) t l p
+  refuse-follows : (r : Reply) → Valid c t l p → Follows c t l p (refuse (absOf c t l p) r) (refused c r) t l p
   refuse-follows r v = record {
     valid = v;
     after = refl;
@@ -52,16 +66,8 @@ module _ (c : Connection) (t l p : List ℕ) where
     read = refl;
   }
 
-  -- an answer that leaves memory as it was: the pings and the open wait alone may change
-  pub answer-follows : (r : Rtt) (wait : Bool) (a : Answer) → Valid c t l p
-      → Follows c t l p (gives (outcomeOf a) (withOpenWait (withPings (absOf c t l p) r) wait)) (answered (withOpens (withRtt c r) (c .«next_id») wait) a) t l p
-  answer-follows r wait a v = record {
-    valid = record { memory = v .memory; slots = v .slots; pool = v .pool; fresh = record { parity = v .fresh .parity; below = v .fresh .below } };
-    after = refl;
-    advances = nothing-advances (c .memory) t l p (v .memory);
-    says = record { reply = refl; slot = refl; value = refl; sent = refl; wakes = refl };
-    read = refl;
-  }
+  pub refused-handles : (r : Reply) → Handles (λ x. refuse x r) c t l p (refused c r) t l p
+  refused-handles r = record { steps = refuse-follows r; refuses = λ e. (refl, refl, refl, refl); silent = λ e. (refl, refl) }
 
   module _ (sized : Bool) (call : Call) where
     pub wrong-size : sized ≡ false → Promised sized c t l p call (refused c reply.Size) t l p
@@ -71,19 +77,14 @@ module _ (c : Connection) (t l p : List ℕ) where
       refuses = λ w. (refl, refl, refl, refl);
     }
 
-    pub right-size : sized ≡ true → (d : Done) (t′ l′ p′ : List ℕ)
-        → (Valid c t l p → Follows c t l p (step (absOf c t l p) call) d t′ l′ p′)
-        → (leavesAll (d .answer .reply) ≡ true → (d .connection ≡ c) × (t′ ≡ t) × (l′ ≡ l) × (p′ ≡ p))
-        → Promised sized c t l p call d t′ l′ p′
-    right-size e d t′ l′ p′ follows refuses = record {
-      steps = λ s v. follows v;
+    -- a rule that is handled, where it is the call's
+    pub promised : sized ≡ true → (rule : Conn → Result) (d : Done) (t′ l′ p′ : List ℕ) → (Valid c t l p → step (absOf c t l p) call ≡ rule (absOf c t l p))
+        → Handles rule c t l p d t′ l′ p′ → Promised sized c t l p call d t′ l′ p′
+    promised e rule d t′ l′ p′ same h = record {
+      steps = λ s v. rw (same v) (h .steps v);
       wrong = λ w. never (sym e ∙ w);
-      refuses = refuses;
+      refuses = h .refuses;
     }
 
     pub refusing : sized ≡ true → (r : Reply) → (Valid c t l p → step (absOf c t l p) call ≡ refuse (absOf c t l p) r) → Promised sized c t l p call (refused c r) t l p
-    refusing e r same = right-size e (refused c r) t l p (λ v. rw (same v) (refuse-follows r v)) (λ w. (refl, refl, refl, refl))
-
-    pub following : sized ≡ true → (d : Done) (t′ l′ p′ : List ℕ) → leavesAll (d .answer .reply) ≡ false
-        → (Valid c t l p → Follows c t l p (step (absOf c t l p) call) d t′ l′ p′) → Promised sized c t l p call d t′ l′ p′
-    following e d t′ l′ p′ done follows = right-size e d t′ l′ p′ follows (λ w. never (sym w ∙ done))
+    refusing e r same = promised e (λ x. refuse x r) (refused c r) t l p same (refused-handles r)

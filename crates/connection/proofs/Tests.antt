@@ -1,5 +1,5 @@
--- What a call tests before its rules is what the rules test: the time, whether the connection has ended, the handle and the free slot. Assumes nothing.
-use mathlib.Core.Path.{_≡_, refl, ap, _∙_}
+-- What a call tests before its rules is what the rules test: the sizes, the time, whether the connection has ended, and the handle. Assumes nothing.
+use mathlib.Core.Path.{_≡_, refl, sym, ap, _∙_}
 use mathlib.Core.Bool.{Bool, true, false, cond}
 use mathlib.Core.List.{List}
 use Prim.Native.Nat.{ℕ, _<_}
@@ -7,97 +7,106 @@ use native.Mathlib.Omega.{arith}
 use borrow.Author.Tests.{leb-true, leb-false}
 use lib.Dec.{ltb, leb}
 use Rattle.rules.specs.Settings.{lastTime}
-use Rattle.rules.specs.Lists.{Place, at, nowhere}
-use Rattle.rules.specs.State.{Entry, Conn, entry, lowestFree}
-use Rattle.rules.specs.Step.{timed, holding}
+use Rattle.rules.specs.State.{Entry, Conn, entry}
+use Rattle.rules.specs.Step.{Call, step, timed, holding}
 use Rattle.rules.specs.Ending.{Result, refuse}
 use Rattle.rules.specs.declared.Reply.{Reply}
 use Rattle.rules.specs.declared.Reply.the-variants as reply
-use Rattle.table.specs.Table.{rowAt, foundOf}
+use Rattle.table.specs.Table.{rowAt}
 use Rattle.table.specs.declared.row.Row.{Row}
-use Rattle.handlers.specs.Perform.{vacancyOf}
 use Rattle.memory.specs.Slots.{slotsOf}
-use Rattle.memory.proofs.Laws.{entry-held, entry-beyond, free-slots}
+use Rattle.memory.proofs.Laws.{entry-held, entry-beyond}
 use Rattle.connection.specs.Abstract.{absOf, Valid}
-use Rattle.connection.specs.Parts.{handleOf}
-use Rattle.connection.specs.Promises.{gateOf, vacant, vacancyIn}
+use Rattle.connection.specs.Parts.{gateOf, heldIn, behind, handleOf, Holds}
+use Rattle.connection.specs.Promises.{refused, Promised}
 use Rattle.connection.specs.declared.Connection.{Connection}
+use Rattle.connection.specs.declared.Gate.{Gate}
 use Rattle.connection.specs.declared.Gate.the-variants as gate
 use Rattle.connection.specs.declared.Handle.the-variants.{Held, Refused}
+use Rattle.connection.proofs.Promises.{wrong-size, refusing}
 
 -- ---- the gate, of a call that an ended connection refuses (`ended` is the connection's), or does not (`ended` is false)
 
-module _ (c : Conn) (ended : Bool) (now : ℕ) (next : Result) where
-  pub gate-shut : (r : Reply) → gateOf ended now ≡ gate.Shut r → timed c now (cond ended (refuse c reply.Closed) next) ≡ refuse c r
-  gate-shut r e = go (ltb lastTime now) ended e
-    where
-      go : (a b : Bool) → cond a (gate.Shut reply.Time) (cond b (gate.Shut reply.Closed) gate.Open) ≡ gate.Shut r
-          → cond a (refuse c reply.Time) (cond b (refuse c reply.Closed) next) ≡ refuse c r
-      go true b h = let z : reply.Time ≡ r = cc in rw z
-      go false true h = let z : reply.Closed ≡ r = cc in rw z
-      go false false h = cc
+pub gate-open : (sized ended : Bool) (now : ℕ) → gateOf sized ended now ≡ gate.Open
+    → (sized ≡ true) × ((a : Conn) (next : Result) → timed a now (cond ended (refuse a reply.Closed) next) ≡ next)
+gate-open sized ended now e = go sized (ltb lastTime now) ended refl e
+  where
+    go : (s x y : Bool) → sized ≡ s → cond s (cond x (gate.Shut reply.Time) (cond y (gate.Shut reply.Closed) gate.Open)) (gate.Shut reply.Size) ≡ gate.Open
+        → (sized ≡ true) × ((a : Conn) (next : Result) → cond x (refuse a reply.Time) (cond y (refuse a reply.Closed) next) ≡ next)
+    go false x y s h = absurd (let z : _≡_ {A = ℕ} 0 1 = cc in omega arith)
+    go true true y s h = absurd (let z : _≡_ {A = ℕ} 0 1 = cc in omega arith)
+    go true false true s h = absurd (let z : _≡_ {A = ℕ} 0 1 = cc in omega arith)
+    go true false false s h = (s, λ a next. refl)
 
-  pub gate-open : gateOf ended now ≡ gate.Open → timed c now (cond ended (refuse c reply.Closed) next) ≡ next
-  gate-open e = go (ltb lastTime now) ended e
+module _ (c : Connection) (t l p : List ℕ) (sized : Bool) (call : Call) (now : ℕ) (next : Result) where
+  abbrev a : Conn
+  a = absOf c t l p
+
+  -- a call that the gate refuses
+  pub gate-shut : (ended : Bool) (r : Reply) → gateOf sized ended now ≡ gate.Shut r
+      → (Valid c t l p → step (absOf c t l p) call ≡ timed (absOf c t l p) now (cond ended (refuse (absOf c t l p) reply.Closed) next))
+      → Promised sized c t l p call (refused c r) t l p
+  gate-shut ended r e same = go sized (ltb lastTime now) ended refl e same
     where
-      go : (a b : Bool) → cond a (gate.Shut reply.Time) (cond b (gate.Shut reply.Closed) gate.Open) ≡ gate.Open
-          → cond a (refuse c reply.Time) (cond b (refuse c reply.Closed) next) ≡ next
-      go true b h = cc
-      go false true h = cc
-      go false false h = refl
+      go : (s x y : Bool) → sized ≡ s → cond s (cond x (gate.Shut reply.Time) (cond y (gate.Shut reply.Closed) gate.Open)) (gate.Shut reply.Size) ≡ gate.Shut r
+          → (Valid c t l p → step a call ≡ cond x (refuse a reply.Time) (cond y (refuse a reply.Closed) next)) → Promised sized c t l p call (refused c r) t l p
+      go false x y s h q = let z : reply.Size ≡ r = cc in rw (← z) (wrong-size c t l p sized call s)
+      go true true y s h q = let z : reply.Time ≡ r = cc in rw (← z) (refusing c t l p sized call s reply.Time q)
+      go true false true s h q = let z : reply.Closed ≡ r = cc in rw (← z) (refusing c t l p sized call s reply.Closed q)
+      go true false false s h q = absurd (let z : _≡_ {A = ℕ} 0 1 = cc in omega arith)
 
 -- ---- the handle
 
--- a handle that is held: its slot is one of the K, and the row is what it holds
-pub is-held : (k : ℕ) (t : List ℕ) (i now : ℕ) (row : Row) → handleOf k t i now ≡ Held row → (i < k) × (row ≡ rowAt t k i) × (rowAt t k i .held ≡ true)
-is-held k t i now row e = go (ltb lastTime now) (leb k i) (rowAt t k i .held) refl refl e
-  where
-    go : (x y h : Bool) → leb k i ≡ y → rowAt t k i .held ≡ h
-        → cond x (Refused reply.Time) (cond y (Refused reply.NotHeld) (cond h (Held (rowAt t k i)) (Refused reply.NotHeld))) ≡ Held row
-        → (i < k) × (row ≡ rowAt t k i) × (rowAt t k i .held ≡ true)
-    go true y h ye he q = absurd (let z : _≡_ {A = ℕ} 0 1 = cc in omega arith)
-    go false true h ye he q = absurd (let z : _≡_ {A = ℕ} 0 1 = cc in omega arith)
-    go false false true ye he q = (leb-false _ _ ye, cc, he)
-    go false false false ye he q = absurd (let z : _≡_ {A = ℕ} 0 1 = cc in omega arith)
-
-module _ (c : Connection) (t l p : List ℕ) (v : Valid c t l p) (i now : ℕ) (next : Result) where
-  abbrev a : Conn
-  a = absOf c t l p
+module _ (c : Connection) (t l p : List ℕ) (sized : Bool) (call : Call) (now i : ℕ) (next : Result) where
+  abbrev b : Conn
+  b = absOf c t l p
 
   abbrev k : ℕ
   k = c .memory .slots
 
-  held-is : (b : Bool) → leb k i ≡ b → entry (slotsOf (c .memory) t l p) i .held ≡ cond b false (rowAt t k i .held)
-  held-is true e = ap (λ (x : Entry). x .held) (entry-beyond (c .memory) t l p (v .memory) i (leb-true _ _ e))
-  held-is false e = entry-held (c .memory) t l p (v .memory) i (leb-false _ _ e)
+  held-is : Valid c t l p → (b : Bool) → leb k i ≡ b → entry (slotsOf (c .memory) t l p) i .held ≡ cond b false (rowAt t k i .held)
+  held-is v true e = ap (λ (x : Entry). x .held) (entry-beyond (c .memory) t l p (v .memory) i (leb-true _ _ e))
+  held-is v false e = entry-held (c .memory) t l p (v .memory) i (leb-false _ _ e)
 
-  pub handle-refused : (r : Reply) → handleOf k t i now ≡ Refused r → timed a now (holding a i next) ≡ refuse a r
-  handle-refused r e = rw (held-is _ refl) (go (ltb lastTime now) (leb k i) (rowAt t k i .held) e)
+  not-held : (r : Reply) → heldIn k t i ≡ Refused r → Valid c t l p → holding b i next ≡ refuse b r
+  not-held r e v = rw (held-is v _ refl) (go (leb k i) (rowAt t k i .held) e)
     where
-      go : (x y h : Bool)
-          → cond x (Refused reply.Time) (cond y (Refused reply.NotHeld) (cond h (Held (rowAt t k i)) (Refused reply.NotHeld))) ≡ Refused r
-          → cond x (refuse a reply.Time) (cond (cond y false h) next (refuse a reply.NotHeld)) ≡ refuse a r
-      go true y h q = let z : reply.Time ≡ r = cc in rw z
-      go false true h q = let z : reply.NotHeld ≡ r = cc in rw z
-      go false false true q = cc
-      go false false false q = let z : reply.NotHeld ≡ r = cc in rw z
+      go : (y h : Bool) → cond y (Refused reply.NotHeld) (cond h (Held (rowAt t k i)) (Refused reply.NotHeld)) ≡ Refused r
+          → cond (cond y false h) next (refuse b reply.NotHeld) ≡ refuse b r
+      go true h q = let z : reply.NotHeld ≡ r = cc in rw z
+      go false true q = cc
+      go false false q = let z : reply.NotHeld ≡ r = cc in rw z
 
-  pub handle-held : (row : Row) → handleOf k t i now ≡ Held row → timed a now (holding a i next) ≡ next
-  handle-held row e = rw (held-is _ refl) (go (ltb lastTime now) (leb k i) (rowAt t k i .held) e)
+  is-held : (row : Row) → heldIn k t i ≡ Held row → Holds c t i row × (Valid c t l p → holding b i next ≡ next)
+  is-held row e = go (leb k i) (rowAt t k i .held) refl refl e
     where
-      go : (x y h : Bool)
-          → cond x (Refused reply.Time) (cond y (Refused reply.NotHeld) (cond h (Held (rowAt t k i)) (Refused reply.NotHeld))) ≡ Held row
-          → cond x (refuse a reply.Time) (cond (cond y false h) next (refuse a reply.NotHeld)) ≡ next
-      go true y h q = absurd (let z : _≡_ {A = ℕ} 0 1 = cc in omega arith)
-      go false true h q = absurd (let z : _≡_ {A = ℕ} 0 1 = cc in omega arith)
-      go false false true q = refl
-      go false false false q = absurd (let z : _≡_ {A = ℕ} 0 1 = cc in omega arith)
+      go : (y h : Bool) → leb k i ≡ y → rowAt t k i .held ≡ h → cond y (Refused reply.NotHeld) (cond h (Held (rowAt t k i)) (Refused reply.NotHeld)) ≡ Held row
+          → Holds c t i row × (Valid c t l p → holding b i next ≡ next)
+      go true h ye he q = absurd (let z : _≡_ {A = ℕ} 0 1 = cc in omega arith)
+      go false true ye he q =
+          let z : row ≡ rowAt t k i = cc in
+          (record { loaded = z; below = leb-false _ _ ye; held = rw z he }, λ v. rw (held-is v false ye, he))
+      go false false ye he q = absurd (let z : _≡_ {A = ℕ} 0 1 = cc in omega arith)
 
--- ---- the lowest free slot
+  -- a call on a handle that is refused before its rule
+  pub handle-shut : (r : Reply) → handleOf sized (c .memory .slots) t i now ≡ Refused r
+      → (Valid c t l p → step (absOf c t l p) call ≡ timed (absOf c t l p) now (holding (absOf c t l p) i next)) → Promised sized c t l p call (refused c r) t l p
+  handle-shut r e same = go (gateOf sized false now) refl e
+    where
+      go : (g : Gate) → gateOf sized false now ≡ g → behind g (heldIn k t i) ≡ Refused r → Promised sized c t l p call (refused c r) t l p
+      go (gate.Shut q) eg h = let z : q ≡ r = cc in rw (← z) (gate-shut c t l p sized call now (holding b i next) false q eg same)
+      go gate.Open eg h =
+          let o = gate-open sized false now eg in
+          refusing c t l p sized call (o .0) r (λ v. same v ∙ o .1 b (holding b i next) ∙ not-held r h v)
 
-vacant-of : (q : Place) → vacant (foundOf q) ≡ vacancyOf q
-vacant-of (at i) = refl
-vacant-of nowhere = refl
-
-pub vacancy-rules : (c : Connection) (t l p : List ℕ) → Valid c t l p → vacancyIn t (c .memory .slots) ≡ vacancyOf (lowestFree (slotsOf (c .memory) t l p))
-vacancy-rules c t l p v = ap vacant (free-slots (c .memory) t l p (v .memory)) ∙ vacant-of (lowestFree (slotsOf (c .memory) t l p))
+  pub handle-held : (row : Row) → handleOf sized (c .memory .slots) t i now ≡ Held row
+      → (sized ≡ true) × Holds c t i row × (Valid c t l p → timed (absOf c t l p) now (holding (absOf c t l p) i next) ≡ next)
+  handle-held row e = go (gateOf sized false now) refl e
+    where
+      go : (g : Gate) → gateOf sized false now ≡ g → behind g (heldIn k t i) ≡ Held row
+          → (sized ≡ true) × Holds c t i row × (Valid c t l p → timed b now (holding b i next) ≡ next)
+      go (gate.Shut q) eg h = absurd (let z : _≡_ {A = ℕ} 0 1 = cc in omega arith)
+      go gate.Open eg h =
+          let o = gate-open sized false now eg in
+          let w = is-held row h in
+          (o .0, w .0, λ v. o .1 b (holding b i next) ∙ w .1 v)

@@ -34,14 +34,23 @@ answers-same a b o x y = λ i. record {
 module _ (c : Connection) (t l p : List ℕ) (v : Valid c t l p) (c′ : Connection) (t′ l′ p′ : List ℕ) (v′ : Valid c′ t′ l′ p′)
     (same : absOf c t l p ≡ absOf c′ t′ l′ p′) where
   pools : c .memory .pool ≡ c′ .memory .pool
-  pools = v .pool ∙ ap (λ (x : Conn). x .config .pool) same ∙ sym (v′ .pool)
+  pools = ap (λ (x : Conn). x .config .pool) same
 
   slots : slotsOf (c .memory) t l p ≡ slotsOf (c′ .memory) t′ l′ p′
   slots = ap (λ (x : Conn). x .slots) same
 
   fields-same : memory.Alike (c .memory) t l p (c′ .memory) t′ l′ p′ → (b : ℕ) → withHead c b ≡ withHead c′ b
   fields-same m b = λ i. record {
-    config = same i .config;
+    config = record {
+      mode = same i .config .mode;
+      «max_num_streams» = same i .config .«max_num_streams»;
+      limit = same i .config .limit;
+      «read_after_close» = same i .config .«read_after_close»;
+      split = same i .config .split;
+      interval = same i .config .interval;
+      «first_time» = same i .config .«first_time»;
+      «first_id» = same i .config .«first_id»;
+    };
     rtt = same i .pings;
     ended = same i .ended;
     «next_id» = same i .nextId;

@@ -4,13 +4,31 @@ use mathlib.Core.Bool.{true}
 use mathlib.Core.List.{List}
 use Prim.Native.Nat.{ℕ, _<_}
 use Rattle.rules.specs.State.{Conn, entry, isOwn}
+use Rattle.rules.specs.declared.Config.{Config}
 use Rattle.memory.specs.Slots as memory
+use Rattle.memory.specs.declared.Memory.{Memory}
 use Rattle.connection.specs.declared.Connection.{Connection}
+use Rattle.connection.specs.declared.Terms.{Terms}
+
+-- the settings of document 01: K and P stand with the memory
+abbrev pub configOf : Terms → Memory → Config
+configOf k m = record {
+  mode = k .mode;
+  «max_num_streams» = k .«max_num_streams»;
+  limit = k .limit;
+  «read_after_close» = k .«read_after_close»;
+  split = k .split;
+  interval = k .interval;
+  «first_time» = k .«first_time»;
+  «first_id» = k .«first_id»;
+  slots = m .slots;
+  pool = m .pool;
+}
 
 -- the state of document 01 that a connection and its lent memory stand for
 abbrev pub absOf : Connection → List ℕ → List ℕ → List ℕ → Conn
 absOf c t l p = record {
-  config = c .config;
+  config = configOf (c .config) (c .memory);
   pings = c .rtt;
   ended = c .ended;
   nextId = c .«next_id»;
@@ -27,6 +45,4 @@ pub record Fresh (c : Conn) : Type 0 where
 
 pub record Valid (c : Connection) (t l p : List ℕ) : Type 0 where
   pub memory : memory.Valid (c .memory) t l p
-  pub slots : c .memory .slots ≡ c .config .slots
-  pub pool : c .memory .pool ≡ c .config .pool
   pub fresh : Fresh (absOf c t l p)

@@ -4,7 +4,7 @@ use mathlib.Core.Bool.{Bool, true, false, cond}
 use mathlib.Core.List.{List, _++_}
 use Prim.Native.Nat.{ℕ}
 use lib.ListN.{length, drop}
-use lib.Dec.{eqb, ltb}
+use lib.Dec.{eqb}
 use Rattle.frame.specs.Wire.{written}
 use Rattle.stream.specs.declared.Sent.{Sent}
 use Rattle.stream.specs.declared.Sent.the-variants.{Frame, Nothing}
@@ -12,24 +12,17 @@ use Rattle.rules.specs.declared.Reply.{Reply}
 use Rattle.rules.specs.declared.Reply.the-variants as reply
 use Rattle.rules.specs.declared.Which.the-variants as which
 use Rattle.rules.specs.declared.Value.the-variants as value
-use Rattle.rules.specs.Settings.{lastTime}
 use Rattle.rules.specs.Replies.{Outcome, leavesAll, mayGive}
+use Rattle.rules.specs.State.{Conn}
 use Rattle.rules.specs.Ending.{Result, end}
 use Rattle.rules.specs.Step.{Call, step}
-use Rattle.table.specs.Table.{lowestFree}
-use Rattle.table.specs.declared.Found.{Found}
-use Rattle.table.specs.declared.Found.the-variants as found
 use Rattle.handlers.specs.declared.Answer.{Answer}
-use Rattle.handlers.specs.declared.Vacancy.{Vacancy}
-use Rattle.handlers.specs.declared.Vacancy.the-variants as vacancy
 use Rattle.memory.specs.Counts.{fits}
 use Rattle.memory.specs.Moves.{Advances}
 use Rattle.connection.specs.Abstract.{absOf, Valid}
 use Rattle.connection.specs.Parts.{answered}
 use Rattle.connection.specs.declared.Connection.{Connection}
 use Rattle.connection.specs.declared.Done.{Done}
-use Rattle.connection.specs.declared.Gate.{Gate}
-use Rattle.connection.specs.declared.Gate.the-variants as gate
 
 -- the twelve lent bytes: a header that is given, else as they were
 abbrev pub sentAfter : Sent → List ℕ → List ℕ
@@ -53,18 +46,6 @@ sized c t l p sent = cond (fits (c .memory .slots) (c .memory .pool) t l p) (eqb
 -- "nothing changed"
 abbrev pub refused : Connection → Reply → Done
 refused c r = answered c (bareAnswer r false)
-
--- "10, 5 (ended)": a time above 2^62-1, and next a connection that has ended
-abbrev pub gateOf : Bool → ℕ → Gate
-gateOf ended now = cond (ltb lastTime now) (gate.Shut reply.Time) (cond ended (gate.Shut reply.Closed) gate.Open)
-
-abbrev pub vacant : Found → Vacancy
-vacant (found.At s) = vacancy.At s
-vacant found.Nowhere = vacancy.Nowhere
-
--- "the lowest free one is taken"
-abbrev pub vacancyIn : List ℕ → ℕ → Vacancy
-vacancyIn t k = vacant (lowestFree t k)
 
 -- "Lent output changes only in the bytes read": those, and the rest as it was
 abbrev pub outAfter : List ℕ → List ℕ → List ℕ
@@ -95,15 +76,16 @@ pub record Follows (c : Connection) (t l p : List ℕ) (rule : Result) (d : Done
   pub says : Says (d .answer) (rule .outcome)
   pub read : d .read ≡ length (rule .outcome .bytes)
 
--- "connection ended": what the rules' `end` says, from a valid state
-abbrev pub Ends : Connection → List ℕ → Reply → Done → List ℕ → Type 0
-Ends c t r d t′ = (l p : List ℕ) → Valid c t l p → Follows c t l p (end (absOf c t l p) r) d t′ l p
+-- A rule is handled: from a valid state the result is the rule's; a refusal leaves all as it was; and a header or bytes are given only
+-- where the reply may give them.
+pub record Handles (rule : Conn → Result) (c : Connection) (t l p : List ℕ) (d : Done) (t′ l′ p′ : List ℕ) : Type 0 where
+  pub steps : Valid c t l p → Follows c t l p (rule (absOf c t l p)) d t′ l′ p′
+  pub refuses : leavesAll (d .answer .reply) ≡ true → (d .connection ≡ c) × (t′ ≡ t) × (l′ ≡ l) × (p′ ≡ p)
+  pub silent : Silent d
 
--- the same, with an answer of the reply alone on any contents
-pub record Over (c : Connection) (t : List ℕ) (r : Reply) (d : Done) (t′ : List ℕ) : Type 0 where
-  pub answer : d .answer ≡ bareAnswer r true
-  pub read : d .read ≡ 0
-  pub ends : Ends c t r d t′
+-- "connection ended": the rules' `end`, by a reply that is no refusal
+abbrev pub Over : Connection → List ℕ → Reply → Done → List ℕ → Type 0
+Over c t r d t′ = (l p : List ℕ) → leavesAll r ≡ false → Handles (λ x. end x r) c t l p d t′ l p
 
 -- What every call promises, `sized` saying whether all that is lent has its size: from a valid state it is the rules' step;
 -- a wrong size is 14, before all else; and a refusal leaves connection, table, links and pool as they were.

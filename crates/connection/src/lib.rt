@@ -1,28 +1,38 @@
 // The connection: what it holds, and what its calls share. The calls themselves stand in the crates above.
 ghost use mathlib.Core.Path.{_≡_};
-ghost use Rattle.connection.specs.Parts.{withMemory, withGrowth, withRtt, withOpens, answered, pinged, settled, handleOf};
-ghost use Rattle.connection.specs.Promises.{sized, bareAnswer, refused, gateOf, vacancyIn, sentAfter, Over};
+ghost use Rattle.connection.specs.Parts.{pinged, gateOf, heldIn, handleOf};
+ghost use Rattle.connection.specs.Promises.{sized, bareAnswer, refused, sentAfter, Over};
 use frame::header;
 use frame::header::HEADER_SIZE;
 use handlers::Answer;
-use handlers::Pong;
-use handlers::Vacancy;
+use handlers::PingStep;
 use memory::Memory;
 use rtt::Rtt;
-use rules::Config;
 use rules::LAST_TIME;
+use rules::Mode;
 use rules::Reply;
 use rules::Slot;
 use rules::Value;
 use rules::Which;
 use rules::Woke;
 use stream::Sent;
-use table::Found;
 use table::row::Row;
+
+// The settings, but for K and P, which stand with the memory.
+pub struct Terms {
+    pub mode: Mode,
+    pub max_num_streams: u32,
+    pub limit: u64,
+    pub read_after_close: bool,
+    pub split: u32,
+    pub interval: u64,
+    pub first_time: u64,
+    pub first_id: u32,
+}
 
 // The marks come last: a gap before a wide field would be copied by pieces at every call.
 pub struct Connection {
-    pub config: Config,
+    pub config: Terms,
     pub rtt: Rtt,
     pub growth: u64,
     pub memory: Memory,
@@ -38,7 +48,7 @@ pub struct Done {
     pub read: u32,
 }
 
-// Whether a call goes on: its time is in range, and the connection has not ended.
+// Whether a call goes on to its rule, or why not.
 pub enum Gate {
     Open,
     Shut(Reply),
@@ -48,40 +58,6 @@ pub enum Gate {
 pub enum Handle {
     Held(Row),
     Refused(Reply),
-}
-
-impl Connection {
-    // The same connection with other memory.
-    pub fn with_memory(self, memory: Memory) -> Connection
-        ensures { λ r. ⌜ r ≡ withMemory self memory ⌝ }
-    {
-        Connection { memory, ..self }
-    }
-
-    // The same connection with another growth figure.
-    pub fn with_growth(self, growth: u64) -> Connection
-        ensures { λ r. ⌜ r ≡ withGrowth self growth ⌝ }
-    {
-        Connection { growth, ..self }
-    }
-
-    // The same connection with other pings.
-    pub fn with_rtt(self, rtt: Rtt) -> Connection
-        ensures { λ r. ⌜ r ≡ withRtt self rtt ⌝ }
-    {
-        Connection { rtt, ..self }
-    }
-
-    // The same connection with another next id and open wait.
-    pub fn with_opens(self, next_id: u32, open_wait: bool) -> Connection
-        ensures { λ r. ⌜ r ≡ withOpens self «next_id» «open_wait» ⌝ }
-    {
-        Connection {
-            next_id,
-            open_wait,
-            ..self
-        }
-    }
 }
 
 // Whether all that is lent has its size, with twelve bytes for a header.
@@ -95,32 +71,17 @@ pub fn sized(c: Connection, table: usize, links: usize, pool: usize, sent: usize
     false
 }
 
-// The connection, and an answer to a call that reads no bytes.
-pub fn answered(c: Connection, answer: Answer) -> Done
-    ensures { λ r. ⌜ r ≡ answered c answer ⌝ }
+// The connection with the pings that a tick or a Ping leaves, and what it answers.
+pub fn pinged(c: Connection, step: PingStep) -> Done
+    ensures { λ r. ⌜ r ≡ pinged c step ⌝ }
 {
+    let rtt = step.rtt;
+    let answer = step.answer;
     Done {
-        connection: c,
+        connection: Connection { rtt, ..c },
         answer,
         read: 0,
     }
-}
-
-// The connection with the pings that a tick or a Ping leaves, and what it answers.
-pub fn pinged(c: Connection, pong: Pong) -> Done
-    ensures { λ r. ⌜ r ≡ pinged c pong ⌝ }
-{
-    let connection = c.with_rtt(pong.rtt);
-    let answer = pong.answer;
-    answered(connection, answer)
-}
-
-// The connection with another next id, open wait and memory, and the answer.
-pub fn settled(c: Connection, next_id: u32, open_wait: bool, memory: Memory, answer: Answer) -> Done
-    ensures { λ r. ⌜ r ≡ settled c «next_id» «open_wait» memory answer ⌝ }
-{
-    let connection = c.with_opens(next_id, open_wait).with_memory(memory);
-    answered(connection, answer)
 }
 
 // An answer of the reply alone; `all` says that the connection ended by it.
@@ -146,14 +107,21 @@ pub fn refuse(c: Connection, reply: Reply) -> Done
     ensures { λ r. ⌜ r ≡ refused c reply ⌝ }
 {
     let answer = bare(reply, false);
-    answered(c, answer)
+    Done {
+        connection: c,
+        answer,
+        read: 0,
+    }
 }
 
-// Refuses a time above 2^62-1 and, next, an ended connection.
-pub fn judge(ended: bool, now: u64) -> Gate
-    ensures { λ r. ⌜ r ≡ gateOf ended now ⌝ }
+// Refuses lent memory of a wrong size, then a time above 2^62-1, then an ended connection.
+pub fn judge(fits: bool, ended: bool, time: u64) -> Gate
+    ensures { λ r. ⌜ r ≡ gateOf fits ended time ⌝ }
 {
-    if LAST_TIME < now {
+    if !fits {
+        return Gate::Shut(Reply::Size);
+    }
+    if LAST_TIME < time {
         return Gate::Shut(Reply::Time);
     }
     if ended {
@@ -162,13 +130,10 @@ pub fn judge(ended: bool, now: u64) -> Gate
     Gate::Open
 }
 
-// The row of a handle that is held, for a call in time.
-pub fn held_row(k: u32, table: &[u64], slot: Slot, time: u64) -> Handle
-    ensures { λ r. ⌜ r ≡ handleOf k (now (table .entry)) (slot .0) time ⌝ }
+// The row of a slot that is held.
+fn held(k: u32, table: &[u64], slot: Slot) -> Handle
+    ensures { λ r. ⌜ r ≡ heldIn k (now (table .entry)) (slot .0) ⌝ }
 {
-    if LAST_TIME < time {
-        return Handle::Refused(Reply::Time);
-    }
     let i = slot.0;
     if k <= i {
         return Handle::Refused(Reply::NotHeld);
@@ -180,14 +145,14 @@ pub fn held_row(k: u32, table: &[u64], slot: Slot, time: u64) -> Handle
     Handle::Refused(Reply::NotHeld)
 }
 
-// The lowest free slot.
-pub fn vacancy(table: &[u64], k: u32) -> Vacancy
-    ensures { λ r. ⌜ r ≡ vacancyIn (now (table .entry)) k ⌝ }
+// The row of a handle that is held, for a call with lent memory of its size and in time. An ended connection has its handles still.
+pub fn held_row(k: u32, table: &[u64], fits: bool, slot: Slot, time: u64) -> Handle
+    ensures { λ r. ⌜ r ≡ handleOf fits k (now (table .entry)) (slot .0) time ⌝ }
 {
-    let found = table::lowest_free(table, k);
-    match found {
-        Found::At(slot) => Vacancy::At(slot),
-        Found::Nowhere => Vacancy::Nowhere,
+    let gate = judge(fits, false, time);
+    match gate {
+        Gate::Shut(reply) => Handle::Refused(reply),
+        Gate::Open => held(k, table, slot),
     }
 }
 
@@ -204,16 +169,19 @@ pub fn put(sent: &mut [u8], frame: Sent)
 }
 
 // Ends the connection: every stream in the table is Closed and leaves it, and nobody waits any more.
-pub fn end(c: Connection, table: &mut [u64], reply: Reply) -> Done
+pub fn drop_all_streams(c: Connection, table: &mut [u64], reply: Reply) -> Done
     ensures { λ r. ⌜ Over c (now (table .entry)) reply r (now (table .exit)) ⌝ }
 {
     let memory = c.memory.end_all(table);
-    let connection = Connection {
-        ended: true,
-        open_wait: false,
-        memory,
-        ..c
-    };
     let answer = bare(reply, true);
-    answered(connection, answer)
+    Done {
+        connection: Connection {
+            ended: true,
+            open_wait: false,
+            memory,
+            ..c
+        },
+        answer,
+        read: 0,
+    }
 }

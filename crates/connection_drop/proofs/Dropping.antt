@@ -10,15 +10,15 @@ use lib.Seq.{getD-set-other, set-set}
 use Rattle.stream.specs.Streams.{dropped}
 use Rattle.stream.specs.declared.Stream.{Stream}
 use Rattle.rules.specs.Lists.{Place, at, nowhere}
-use Rattle.rules.specs.State.{Entry, entry, vacant, find, withSlots, withGrowth}
+use Rattle.rules.specs.State.{Entry, entry, vacant, find, withSlots, withGrowth, foundOf}
 use Rattle.rules.specs.Ending.{Result, gives}
 use Rattle.rules.specs.Calls.{dropRules}
 use Rattle.rules.specs.declared.Reply.the-variants as reply
 use Rattle.rules.specs.declared.Slot.{Slot}
-use Rattle.table.specs.Table.{rowAt, foundOf, Finds}
+use Rattle.table.specs.Table.{rowAt, Finds}
 use Rattle.table.specs.declared.row.Row.{Row}
-use Rattle.table.specs.declared.Found.{Found}
-use Rattle.table.specs.declared.Found.the-variants as found
+use Rattle.rules.specs.declared.Which.{Which}
+use Rattle.rules.specs.declared.Which.the-variants as which
 use Rattle.handlers.specs.Perform.{outcomeOf, perform}
 use Rattle.handlers.specs.Locals.{onDrop, tableAt, freed, growthReturned}
 use Rattle.handlers.specs.declared.Answer.{Answer}
@@ -40,10 +40,10 @@ use Rattle.connection_drop.specs.declared.Removed.{Removed}
 
 -- ---- the answer is done, on any contents
 
-pub removed-done : (m : Memory) (t : List ℕ) (i : Slot) (f : Found) (r : Removed) (t′ : List ℕ) → Removes m t i f r t′ → r .answer .reply ≡ reply.Done
+pub removed-done : (m : Memory) (t : List ℕ) (i : Slot) (f : Which) (r : Removed) (t′ : List ℕ) → Removes m t i f r t′ → r .answer .reply ≡ reply.Done
 unfolding onDrop
-removed-done m t i (found.At j) r t′ w = ap (λ (o : Answer). o .reply) (w .0)
-removed-done m t i found.Nowhere r t′ w = ap (λ (x : Removed). x .answer .reply) (w .0)
+removed-done m t i (which.At j) r t′ w = ap (λ (o : Answer). o .reply) (w .0)
+removed-done m t i which.None r t′ w = ap (λ (x : Removed). x .answer .reply) (w .0)
 
 -- ---- the rules of a drop
 
@@ -107,7 +107,7 @@ module _ (c : Connection) (t l p : List ℕ) (v : Valid c t l p) (i : Slot) (bel
 
     -- the stream found is at slot j
     at-follows : (j : ℕ) → (j < c .memory .slots) × (entry es j .listed ≡ true) × (entry es j .held ≡ true) × (entry es j .stream .id ≡ row .stream .id)
-        → Removes (c .memory) t i (found.At (record { 0 = j })) r t₁ → Dec (i .0 ≡ j)
+        → Removes (c .memory) t i (which.At (record { 0 = j })) r t₁ → Dec (i .0 ≡ j)
         → Follows c t l p (rule (at j)) (released c growth m₂ (r .answer)) t₂ l₂ p
     unfolding freed perform onDrop
     at-follows j h w (yes x) =
@@ -130,7 +130,7 @@ module _ (c : Connection) (t l p : List ℕ) (v : Valid c t l p) (i : Slot) (bel
         rw (w .0) (own-freed m₂ t₂ l₂ _ (kept-moved (ap (λ (x : Removed). x .memory) (w .0)) (w .1)))
     place-follows (at j) e w = at-follows j (find-at (c .memory) t l p (v .memory) (row .stream .id) j e) w (ℕ-discrete (i .0) j)
 
-    pub released-follows : (f : Found) → Finds t (c .memory .slots) (row .stream .id) f → Removes (c .memory) t i f r t₁
+    pub released-follows : (f : Which) → Finds t (c .memory .slots) (row .stream .id) f → Removes (c .memory) t i f r t₁
         → Follows c t l p (dropRules (absOf c t l p) (i .0) (entry es (i .0))) (released c growth m₂ (r .answer)) t₂ l₂ p
     released-follows f finds w =
         let e = find-slots (c .memory) t l p (v .memory) (row .stream .id) f finds in

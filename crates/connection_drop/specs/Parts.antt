@@ -12,8 +12,8 @@ use Rattle.rules.specs.declared.Reply.the-variants as reply
 use Rattle.table.specs.Rows.{blank}
 use Rattle.table.specs.Table.{rowAt}
 use Rattle.table.specs.declared.row.Row.{Row}
-use Rattle.table.specs.declared.Found.{Found}
-use Rattle.table.specs.declared.Found.the-variants as found
+use Rattle.rules.specs.declared.Which.{Which}
+use Rattle.rules.specs.declared.Which.the-variants as which
 use Rattle.handlers.specs.Locals.{onDrop}
 use Rattle.handlers.specs.declared.Answer.{Answer}
 use Rattle.handlers.specs.declared.Action.{Action}
@@ -51,16 +51,16 @@ Takes m t i row (action.Queue j s listed o) r t′ = Keeps m t o r t′
 Takes m t i row (action.New j s o) r t′ = Keeps m t o r t′
 
 -- the row found, and its stream
-abbrev pub rowIn : List ℕ → ℕ → Found → Row
-rowIn t k (found.At j) = rowAt t k (j .0)
-rowIn t k found.Nowhere = blank
+abbrev pub rowIn : List ℕ → ℕ → Which → Row
+rowIn t k (which.At j) = rowAt t k (j .0)
+rowIn t k which.None = blank
 
-abbrev pub knownIn : List ℕ → ℕ → Found → Known
-knownIn t k (found.At j) = known.At j (rowAt t k (j .0) .stream)
-knownIn t k found.Nowhere = known.Nowhere
+abbrev pub knownIn : List ℕ → ℕ → Which → Known
+knownIn t k (which.At j) = known.At j (rowAt t k (j .0) .stream)
+knownIn t k which.None = known.Nowhere
 
 -- 01: "removes from the table whichever stream has that id, making it Closed"
-abbrev pub Removes : Memory → List ℕ → Slot → Found → Removed → List ℕ → Type 0
+abbrev pub Removes : Memory → List ℕ → Slot → Which → Removed → List ℕ → Type 0
 Removes m t i f r t′ = Takes m t i (rowIn t (m .slots) f) (onDrop i (knownIn t (m .slots) f)) r t′
 
 -- the rules of a drop, for a handle that is held, its slot's row being `row`

@@ -18,8 +18,8 @@ use handlers::calls;
 use memory::Memory;
 use rules::Reply;
 use rules::Slot;
+use rules::Which;
 use stream::Stream;
-use table::Found;
 use table::row::Row;
 
 // What is left once the stream with the handle's id is out of the table, and what the drop answers.
@@ -90,10 +90,10 @@ fn take(memory: Memory, table: &mut [u64], slot: Slot, row: Row, action: Action)
 }
 
 // Closes the stream found with the handle's id, and takes it from the table.
-fn remove(memory: Memory, table: &mut [u64], slot: Slot, found: Found) -> Removed
+fn remove(memory: Memory, table: &mut [u64], slot: Slot, found: Which) -> Removed
     ensures { λ r. ⌜ Removes memory (now (table .entry)) slot found r (now (table .exit)) ⌝ }
 {
-    let Found::At(place) = found else {
+    let Which::At(place) = found else {
         let blank = Row::blank();
         let action = calls::on_drop(slot, Known::Nowhere);
         return take(memory, table, slot, blank, action);

@@ -7,17 +7,16 @@ use lib.ListN.{length}
 use Rattle.frame.specs.Header.{contains, syn, rst}
 use Rattle.frame.specs.declared.header.Header.{Header}
 use Rattle.frame.specs.declared.header.Tag.the-variants as tag
-use Rattle.rules.specs.State.{Entry, Conn, find, lowestFree, withOpenWait}
+use Rattle.rules.specs.State.{Entry, Conn, find, lowestFree, withOpenWait, foundOf}
 use Rattle.rules.specs.Ending.{Result}
 use Rattle.rules.specs.Frames.{frameRules}
 use Rattle.table.specs.Table.{Finds}
-use Rattle.table.specs.declared.Found.{Found}
-use Rattle.handlers.specs.Perform.{perform, dataAction, updateAction, knownAt, vacancyOf, limitsOf, wakesOpen, withoutWait}
+use Rattle.rules.specs.declared.Which.{Which}
+use Rattle.handlers.specs.Perform.{perform, dataAction, updateAction, knownAt, limitsOf, wakesOpen, withoutWait}
 use Rattle.handlers.specs.declared.Action.{Action}
 use Rattle.handlers.specs.declared.Known.{Known}
 use Rattle.handlers.specs.declared.Limits.{Limits}
-use Rattle.handlers.specs.declared.Vacancy.{Vacancy}
-use Rattle.handlers.specs.declared.Vacancy.the-variants as vacancy
+use Rattle.rules.specs.declared.Which.the-variants as which
 use Rattle.handlers.proofs.Rules.{ListedHeld, data-performs, update-performs, data-with-rst, data-without-syn, update-with-rst, update-without-syn}
 use Rattle.memory.specs.Slots.{slotsOf}
 use Rattle.memory.proofs.Laws.{listed-held}
@@ -44,18 +43,18 @@ no-bytes [] e = refl
 no-bytes (x ∷ b) e = cc
 
 -- the same action, from parts that are the same
-alike : (q : Limits → Known → Vacancy → Action) (a b : Limits) (k j : Known) (v w : Vacancy) → a ≡ b → k ≡ j → q b j v ≡ q b j w → q a k v ≡ q b j w
+alike : (q : Limits → Known → Which → Action) (a b : Limits) (k j : Known) (v w : Which) → a ≡ b → k ≡ j → q b j v ≡ q b j w → q a k v ≡ q b j w
 alike q a b k j v w e f g = rw (e, f) g
 
 -- ---- a Data frame or a WindowUpdate, `q` being what its handler decides
 
 module _ (c : Connection) (t l p : List ℕ) (h : Header) (body : List ℕ) (rule : Conn → Result)
-    (q : Limits → Bool → Known → Vacancy → Action)
-    (with-rst : (a : Limits) (b : Bool) (k : Known) (v : Vacancy) → contains (h .flags) rst ≡ true → q a b k v ≡ q a b k vacancy.Nowhere)
-    (without-syn : (a : Limits) (b : Bool) (k : Known) (v : Vacancy) → contains (h .flags) syn ≡ false → q a b k v ≡ q a b k vacancy.Nowhere)
-    (walk : (Q : Action → Type 0) (a : Limits) (b : Bool) (k : Known) (v : Vacancy) → Closed Q a k v h (length body) → Q (q a b k v))
+    (q : Limits → Bool → Known → Which → Action)
+    (with-rst : (a : Limits) (b : Bool) (k : Known) (v : Which) → contains (h .flags) rst ≡ true → q a b k v ≡ q a b k which.None)
+    (without-syn : (a : Limits) (b : Bool) (k : Known) (v : Which) → contains (h .flags) syn ≡ false → q a b k v ≡ q a b k which.None)
+    (walk : (Q : Action → Type 0) (a : Limits) (b : Bool) (k : Known) (v : Which) → Closed Q a k v h (length body) → Q (q a b k v))
     (performs : (x : Conn) → ListedHeld x →
-    rule x ≡ perform x (withoutWait x h) body (q (limitsOf x) (wakesOpen x h) (knownAt x h (find (x .slots) (h .«stream_id»))) (vacancyOf (lowestFree (x .slots)))))
+    rule x ≡ perform x (withoutWait x h) body (q (limitsOf x) (wakesOpen x h) (knownAt x h (find (x .slots) (h .«stream_id»))) (foundOf (lowestFree (x .slots)))))
   where
     abbrev S : List Entry
     S = slotsOf (c .memory) t l p
@@ -70,22 +69,22 @@ module _ (c : Connection) (t l p : List ℕ) (h : Header) (body : List ℕ) (rul
     abbrev asked : View → Action
     asked r = q (r .limits) (r .woke) (r .seen .known) (r .vacancy)
 
-    module _ (f : Found) (finds : Finds t (c .memory .slots) (h .«stream_id») f) where
+    module _ (f : Which) (finds : Finds t (c .memory .slots) (h .«stream_id») f) where
       abbrev view : View
       view = viewAt c t h f
 
-      shown-same : Valid c t l p → asked view ≡ q (limitsOf x) (wakesOpen x h) (knownAt x h (find S (h .«stream_id»))) (vacancyOf (lowestFree S))
+      shown-same : Valid c t l p → asked view ≡ q (limitsOf x) (wakesOpen x h) (knownAt x h (find S (h .«stream_id»))) (foundOf (lowestFree S))
       shown-same v =
-          alike (λ a k w. q a (wakesOpen x h) k w) (limitsIn c) (limitsOf x) (seenAt t (c .memory .slots) f h .known) (knownAt x h (find S (h .«stream_id»))) (vacancyFor t (c .memory .slots) h) (vacancyOf (lowestFree S))
+          alike (λ a k w. q a (wakesOpen x h) k w) (limitsIn c) (limitsOf x) (seenAt t (c .memory .slots) f h .known) (knownAt x h (find S (h .«stream_id»))) (vacancyFor t (c .memory .slots) h) (foundOf (lowestFree S))
           (sees-limits c t l p v) (sees-known c t l p v h f finds)
           (sees-vacancy c t l p v h (λ w. q (limitsOf x) (wakesOpen x h) (knownAt x h (find S (h .«stream_id»))) w)
-          (with-rst (limitsOf x) (wakesOpen x h) (knownAt x h (find S (h .«stream_id»))) (vacancyOf (lowestFree S)))
-          (without-syn (limitsOf x) (wakesOpen x h) (knownAt x h (find S (h .«stream_id»))) (vacancyOf (lowestFree S))))
+          (with-rst (limitsOf x) (wakesOpen x h) (knownAt x h (find S (h .«stream_id»))) (foundOf (lowestFree S)))
+          (without-syn (limitsOf x) (wakesOpen x h) (knownAt x h (find S (h .«stream_id»))) (foundOf (lowestFree S))))
 
       shown-rule : Valid c t l p → rule x ≡ perform x after body (asked view)
       shown-rule v =
           performs x (listed-held (c .memory) t l p (v .memory))
-          ∙ ap (λ (a : Conn). perform x a body (q (limitsOf x) (wakesOpen x h) (knownAt x h (find S (h .«stream_id»))) (vacancyOf (lowestFree S)))) (sees-wait c t l p h)
+          ∙ ap (λ (a : Conn). perform x a body (q (limitsOf x) (wakesOpen x h) (knownAt x h (find S (h .«stream_id»))) (foundOf (lowestFree S)))) (sees-wait c t l p h)
           ∙ ap (λ (a : Action). perform x after body a) (sym (shown-same v))
 
       shown-handles : (d : Done) (t′ l′ p′ : List ℕ) → Applies c t l p (view .«open_wait») (view .seen .row) (asked view) body d t′ l′ p′ → Handles rule c t l p d t′ l′ p′

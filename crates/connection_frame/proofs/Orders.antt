@@ -21,15 +21,15 @@ use Rattle.rtt.specs.declared.Pong.the-variants.{Accepted, Unexpected}
 use Rattle.rtt.specs.declared.Rtt.{Rtt}
 use Rattle.rules.specs.Lists.{Place, at, nowhere}
 use Rattle.rules.specs.Replies.{mayGive}
-use Rattle.rules.specs.State.{Conn, find}
+use Rattle.rules.specs.State.{Conn, find, foundOf}
 use Rattle.rules.specs.Ending.{refuse}
 use Rattle.rules.specs.Frames.{pingRules, isKnown, frameRules, bodyLength, onHeader}
 use Rattle.rules.specs.Step.{step, frame, timed, live, onDecoded}
 use Rattle.rules.specs.declared.Reply.{Reply}
 use Rattle.rules.specs.declared.Reply.the-variants as reply
 use Rattle.rules.proofs.Lists.{both}
-use Rattle.table.specs.Table.{foundOf, Finds}
-use Rattle.table.specs.declared.Found.{Found}
+use Rattle.table.specs.Table.{Finds}
+use Rattle.rules.specs.declared.Which.{Which}
 use Rattle.handlers.specs.Actions.{pongHeard, pingHeard, noAction, onPing}
 use Rattle.handlers.proofs.Rules.{ping-performs}
 use Rattle.memory.specs.Slots.{slotsOf}
@@ -68,7 +68,7 @@ found-known : (q : Place) → isFound (foundOf q) ≡ isKnown q
 found-known (at i) = refl
 found-known nowhere = refl
 
-pub ping-handles : (c : Connection) (t : List ℕ) (h : Header) (now : ℕ) (f : Found) → Finds t (c .memory .slots) (h .«stream_id») f → (l p : List ℕ)
+pub ping-handles : (c : Connection) (t : List ℕ) (h : Header) (now : ℕ) (f : Which) → Finds t (c .memory .slots) (h .«stream_id») f → (l p : List ℕ)
     → Handles (λ x. pingRules x h now) c t l p (pinged c (onPing (c .rtt) (isFound f) h now (c .config .interval))) t l p
 ping-handles c t h now f finds l p = record {
   steps = follows;

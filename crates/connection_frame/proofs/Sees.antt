@@ -12,19 +12,18 @@ use Rattle.frame.specs.declared.header.StreamId.{StreamId}
 use Rattle.stream.specs.Streams.{acknowledged}
 use Rattle.stream.specs.declared.Stream.{Stream}
 use Rattle.rules.specs.Lists.{Place, at, nowhere}
-use Rattle.rules.specs.State.{Entry, entry, find, lowestFree, listedCount, unreadTotal, isOwn, isRemote, withOpenWait}
+use Rattle.rules.specs.State.{Entry, entry, find, lowestFree, listedCount, unreadTotal, isOwn, isRemote, withOpenWait, foundOf}
 use Rattle.rules.specs.declared.Mode.{Mode}
 use Rattle.rules.specs.declared.Mode.the-variants.{Client, Server}
 use Rattle.rules.specs.declared.Slot.{Slot}
-use Rattle.table.specs.Table.{rowAt, foundOf, Finds}
-use Rattle.table.specs.declared.Found.{Found}
+use Rattle.table.specs.Table.{rowAt, Finds}
+use Rattle.rules.specs.declared.Which.{Which}
 use Rattle.handlers.specs.Actions.{acked}
-use Rattle.handlers.specs.Perform.{knownAt, vacancyOf, limitsOf, withoutWait}
+use Rattle.handlers.specs.Perform.{knownAt, limitsOf, withoutWait}
 use Rattle.handlers.specs.declared.Action.{Action}
 use Rattle.handlers.specs.declared.Known.the-variants as known
 use Rattle.handlers.specs.declared.Limits.{Limits}
-use Rattle.handlers.specs.declared.Vacancy.{Vacancy}
-use Rattle.handlers.specs.declared.Vacancy.the-variants as vacancy
+use Rattle.rules.specs.declared.Which.the-variants as which
 use Rattle.memory.specs.Slots.{slotsOf}
 use Rattle.memory.proofs.Laws.{find-slots, find-at, free-at, entry-held, entry-of-held, listed-count, room-slots}
 use Rattle.connection.specs.Abstract.{absOf, Valid}
@@ -44,8 +43,8 @@ same-limits : (m : Mode) (k a b x y : ℕ) → a ≡ b → x ≡ y → limited m
 same-limits m k a b x y e f = rw (e, f)
 
 -- the vacancy may stay unlooked for where the frame makes no stream
-pub unlooked : (q : Vacancy → Action) (r s : Bool) (v : Vacancy) → (r ≡ true → q v ≡ q vacancy.Nowhere) → (s ≡ false → q v ≡ q vacancy.Nowhere)
-    → q (cond r vacancy.Nowhere (cond s v vacancy.Nowhere)) ≡ q v
+pub unlooked : (q : Which → Action) (r s : Bool) (v : Which) → (r ≡ true → q v ≡ q which.None) → (s ≡ false → q v ≡ q which.None)
+    → q (cond r which.None (cond s v which.None)) ≡ q v
 unlooked q true s v e f = sym (e refl)
 unlooked q false true v e f = refl
 unlooked q false false v e f = sym (f refl)
@@ -63,12 +62,12 @@ remote-not-own Client id e = let z : id .0 % 2 ≡ 0 = eqb-true (id .0 % 2) 0 e 
 remote-not-own Server id e = let z : id .0 % 2 ≡ 1 = eqb-true (id .0 % 2) 1 e in ne-eqb (id .0 % 2) 0 (λ q. omega arith)
 
 -- what the tests of a vacancy leave, where it is a slot
-looked : (r s : Bool) (u : Vacancy) (i : Slot) → cond r vacancy.Nowhere (cond s u vacancy.Nowhere) ≡ vacancy.At i → u ≡ vacancy.At i
+looked : (r s : Bool) (u : Which) (i : Slot) → cond r which.None (cond s u which.None) ≡ which.At i → u ≡ which.At i
 looked true s u i e = cc
 looked false true u i e = e
 looked false false u i e = cc
 
-slot-of : (q : Place) (i : Slot) → vacancyOf q ≡ vacancy.At i → q ≡ at (i .0)
+slot-of : (q : Place) (i : Slot) → foundOf q ≡ which.At i → q ≡ at (i .0)
 slot-of (at j) i e = let z : record { 0 = j } ≡ i = cc in ap (λ (x : Slot). at (x .0)) z
 slot-of nowhere i e = cc
 
@@ -85,15 +84,15 @@ module _ (c : Connection) (t l p : List ℕ) (v : Valid c t l p) where
       (listed-count (c .memory) t l p (v .memory))
       (room-slots (c .memory) t l p (v .memory) ∙ ap (λ (n : ℕ). n - unreadTotal S) (v .pool))
 
-  sees-free : vacancyIn t K ≡ vacancyOf (lowestFree S)
+  sees-free : vacancyIn t K ≡ foundOf (lowestFree S)
   sees-free = vacancy-rules c t l p v
 
   -- the vacancy looked for is the rules', for what looks at it only with SYN and without RST
-  pub sees-vacancy : (h : Header) (q : Vacancy → Action)
-      → (contains (h .flags) rst ≡ true → q (vacancyOf (lowestFree S)) ≡ q vacancy.Nowhere)
-      → (contains (h .flags) syn ≡ false → q (vacancyOf (lowestFree S)) ≡ q vacancy.Nowhere)
-      → q (vacancyFor t K h) ≡ q (vacancyOf (lowestFree S))
-  sees-vacancy h q e f = rw sees-free (unlooked q (contains (h .flags) rst) (contains (h .flags) syn) (vacancyOf (lowestFree S)) e f)
+  pub sees-vacancy : (h : Header) (q : Which → Action)
+      → (contains (h .flags) rst ≡ true → q (foundOf (lowestFree S)) ≡ q which.None)
+      → (contains (h .flags) syn ≡ false → q (foundOf (lowestFree S)) ≡ q which.None)
+      → q (vacancyFor t K h) ≡ q (foundOf (lowestFree S))
+  sees-vacancy h q e f = rw sees-free (unlooked q (contains (h .flags) rst) (contains (h .flags) syn) (foundOf (lowestFree S)) e f)
 
   row-stream : (id : StreamId) (i : ℕ) → find S id ≡ at i → entry S i .stream ≡ rowAt t K i .stream
   row-stream id i e =
@@ -101,7 +100,7 @@ module _ (c : Connection) (t l p : List ℕ) (v : Valid c t l p) where
       let h = sym (entry-held (c .memory) t l p (v .memory) i (a .0)) ∙ a .2 in
       ap (λ (x : Entry). x .stream) (entry-of-held (c .memory) t l p (v .memory) i (a .0) h)
 
-  module _ (h : Header) (f : Found) (finds : Finds t (c .memory .slots) (h .«stream_id») f) where
+  module _ (h : Header) (f : Which) (finds : Finds t (c .memory .slots) (h .«stream_id») f) where
     abbrev place : Place
     place = find S (h .«stream_id»)
 
@@ -146,7 +145,7 @@ module _ (c : Connection) (t l p : List ℕ) (v : Valid c t l p) where
         go (at j) g = cc
         go nowhere g = refl
 
-    makes : (i : Slot) (s : Stream) → vacancyFor t K h ≡ vacancy.At i → seenAt t K f h .known ≡ known.Nowhere
+    makes : (i : Slot) (s : Stream) → vacancyFor t K h ≡ which.At i → seenAt t K f h .known ≡ known.Nowhere
         → isRemote (c .config .mode) (h .«stream_id») ≡ true → s .id ≡ h .«stream_id» → Opens c t l p (i .0) s
     makes i s e g r d =
         let o = looked (contains (h .flags) rst) (contains (h .flags) syn) (vacancyIn t K) i e in
@@ -168,7 +167,7 @@ module _ (c : Connection) (t l p : List ℕ) (v : Valid c t l p) where
     }
 
 -- no action of a handler refuses but by its kind
-pub all-sound : (c : Connection) (t : List ℕ) (f : Found) (h : Header) (n : ℕ)
+pub all-sound : (c : Connection) (t : List ℕ) (f : Which) (h : Header) (n : ℕ)
     → Closed Sound (limitsIn c) (seenAt t (c .memory .slots) f h .known) (vacancyFor t (c .memory .slots) h) h n
 all-sound c t f h n = record {
   refuses = λ r. tt;

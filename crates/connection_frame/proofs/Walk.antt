@@ -21,30 +21,30 @@ use Rattle.handlers.specs.declared.Answer.{Answer}
 use Rattle.handlers.specs.declared.Known.{Known}
 use Rattle.handlers.specs.declared.Known.the-variants as known
 use Rattle.handlers.specs.declared.Limits.{Limits}
-use Rattle.handlers.specs.declared.Vacancy.{Vacancy}
-use Rattle.handlers.specs.declared.Vacancy.the-variants as vacancy
+use Rattle.rules.specs.declared.Which.{Which}
+use Rattle.rules.specs.declared.Which.the-variants as which
 
 -- Q holds of every action that a frame with a body of n bytes can get
-pub record Closed (Q : Action → Type 0) (l : Limits) (k : Known) (v : Vacancy) (h : Header) (n : ℕ) : Type 0 where
+pub record Closed (Q : Action → Type 0) (l : Limits) (k : Known) (v : Which) (h : Header) (n : ℕ) : Type 0 where
   pub refuses : (r : Reply) → Q (action.Refuse r)
   pub answers : (o : Answer) → mayGive (o .reply) ≡ true → Q (action.Answer o)
   pub stores : (i : Slot) (s t : Stream) (b : Bool) (o : Answer) → k ≡ known.At i s → t .id ≡ s .id → mayGive (o .reply) ≡ true → Q (action.Store i t b o)
   pub queues : (i : Slot) (s t : Stream) (b : Bool) (o : Answer) → k ≡ known.At i s → t .id ≡ s .id → ltb (l .room) n ≡ false → mayGive (o .reply) ≡ true → Q (action.Queue i t b o)
-  pub makes : (i : Slot) (s : Stream) (o : Answer) → v ≡ vacancy.At i → k ≡ known.Nowhere → isRemote (l .mode) (h .«stream_id») ≡ true → s .id ≡ h .«stream_id» → ltb (l .room) n ≡ false → mayGive (o .reply) ≡ true → Q (action.New i s o)
+  pub makes : (i : Slot) (s : Stream) (o : Answer) → v ≡ which.At i → k ≡ known.Nowhere → isRemote (l .mode) (h .«stream_id») ≡ true → s .id ≡ h .«stream_id» → ltb (l .room) n ≡ false → mayGive (o .reply) ≡ true → Q (action.New i s o)
 
 picks : (Q : Action → Type 0) (b : Bool) (x y : Action) → (b ≡ true → Q x) → (b ≡ false → Q y) → Q (cond b x y)
 picks Q true x y f g = f refl
 picks Q false x y f g = g refl
 
-module _ (Q : Action → Type 0) (l : Limits) (woke : Bool) (k : Known) (v : Vacancy) (h : Header) (now n : ℕ) (q : Closed Q l k v h n) where
+module _ (Q : Action → Type 0) (l : Limits) (woke : Bool) (k : Known) (v : Which) (h : Header) (now n : ℕ) (q : Closed Q l k v h n) where
   resets : (j : Known) → k ≡ j → Q (onReset woke j)
   unfolding onReset
   resets (known.At i s) e = q .stores i s (closed s) false _ e refl refl
   resets known.Nowhere e = q .answers _ refl
 
-  news : (u : Vacancy) → v ≡ u → (s : Stream) → k ≡ known.Nowhere → isRemote (l .mode) (h .«stream_id») ≡ true → s .id ≡ h .«stream_id» → Q (newAction u (l .room) woke s n)
-  news vacancy.Nowhere e s g r d = q .refuses _
-  news (vacancy.At i) e s g r d = picks Q (ltb (l .room) n) _ _ (λ b. q .refuses _) (λ b. q .makes i s _ e g r d b refl)
+  news : (u : Which) → v ≡ u → (s : Stream) → k ≡ known.Nowhere → isRemote (l .mode) (h .«stream_id») ≡ true → s .id ≡ h .«stream_id» → Q (newAction u (l .room) woke s n)
+  news which.None e s g r d = q .refuses _
+  news (which.At i) e s g r d = picks Q (ltb (l .room) n) _ _ (λ b. q .refuses _) (λ b. q .makes i s _ e g r d b refl)
 
   syns : (full : ℕ) (next : Action) → (k ≡ known.Nowhere → isRemote (l .mode) (h .«stream_id») ≡ true → Q next)
       → (j : Known) → k ≡ j → Q (synAction l woke j (h .«stream_id») (terminate woke full) next)

@@ -9,30 +9,28 @@ use Rattle.handlers.specs.Perform.{dataAction, updateAction}
 use Rattle.handlers.specs.declared.Action.{Action}
 use Rattle.handlers.specs.declared.Known.the-variants as known
 use Rattle.handlers.specs.declared.Limits.{Limits}
-use Rattle.handlers.specs.declared.Vacancy.{Vacancy}
-use Rattle.handlers.specs.declared.Vacancy.the-variants as vacancy
+use Rattle.rules.specs.declared.Which.{Which}
+use Rattle.rules.specs.declared.Which.the-variants as which
 use Rattle.table.specs.Rows.{blank}
 use Rattle.table.specs.Table.{rowAt}
-use Rattle.table.specs.declared.Found.{Found}
-use Rattle.table.specs.declared.Found.the-variants as found
 use Rattle.connection.specs.Promises.{vacancyIn}
 use Rattle.connection.specs.declared.Connection.{Connection}
 use Rattle.connection_frame.specs.declared.shown.Seen.{Seen}
 use Rattle.connection_frame.specs.declared.shown.View.{View}
 
 -- the row where the frame's stream was found, and the stream as the ACK step leaves it
-abbrev pub seenAt : List ℕ → ℕ → Found → Header → Seen
-seenAt t k (found.At s) h = record { known = known.At s (acked h (rowAt t k (s .0) .stream)); row = rowAt t k (s .0) }
-seenAt t k found.Nowhere h = record { known = known.Nowhere; row = blank }
+abbrev pub seenAt : List ℕ → ℕ → Which → Header → Seen
+seenAt t k (which.At s) h = record { known = known.At s (acked h (rowAt t k (s .0) .stream)); row = rowAt t k (s .0) }
+seenAt t k which.None h = record { known = known.Nowhere; row = blank }
 
-abbrev pub isFound : Found → Bool
-isFound (found.At s) = true
-isFound found.Nowhere = false
+abbrev pub isFound : Which → Bool
+isFound (which.At s) = true
+isFound which.None = false
 
 -- "the lowest free one is taken": looked for where the frame may make a stream
-abbrev pub vacancyFor : List ℕ → ℕ → Header → Vacancy
+abbrev pub vacancyFor : List ℕ → ℕ → Header → Which
 vacancyFor t k h =
-    cond (contains (h .flags) rst) vacancy.Nowhere (cond (contains (h .flags) syn) (vacancyIn t k) vacancy.Nowhere)
+    cond (contains (h .flags) rst) which.None (cond (contains (h .flags) syn) (vacancyIn t k) which.None)
 
 -- the streams in the table and the room, by the counts
 abbrev pub limitsIn : Connection → Limits
@@ -50,7 +48,7 @@ wokenBy waits h = cond (contains (h .flags) ack) waits false
 abbrev pub waitAfter : Bool → Header → Bool
 waitAfter waits h = cond (contains (h .flags) ack) false waits
 
-abbrev pub viewAt : Connection → List ℕ → Header → Found → View
+abbrev pub viewAt : Connection → List ℕ → Header → Which → View
 viewAt c t h f = record {
   found = f;
   seen = seenAt t (c .memory .slots) f h;

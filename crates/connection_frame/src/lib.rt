@@ -19,8 +19,8 @@ use frame::header::Header;
 use frame::header::Tag;
 use handlers::Action;
 use rules::Reply;
+use rules::Which;
 use shown::View;
-use table::Found;
 use table::row::Row;
 
 // Does what the action says. `row` is what its slot holds, and `open_wait` is what the ACK step leaves.
@@ -103,12 +103,12 @@ fn on_stream(
     apply(c, table, links, pool, view.open_wait, row, action, body)
 }
 
-fn is_found(found: Found) -> bool
+fn is_found(found: Which) -> bool
     ensures { λ r. ⌜ r ≡ isFound found ⌝ }
 {
     match found {
-        Found::At(_) => true,
-        Found::Nowhere => false,
+        Which::At(_) => true,
+        Which::None => false,
     }
 }
 

@@ -9,8 +9,7 @@ use frame::header::RST;
 use frame::header::SYN;
 use handlers::Known;
 use handlers::Limits;
-use handlers::Vacancy;
-use table::Found;
+use rules::Which;
 use table::row::Row;
 
 // The frame's stream after its ACK step, and the row that holds it.
@@ -21,18 +20,18 @@ pub struct Seen {
 
 // All that decides a Data frame or a WindowUpdate; `open_wait` is the wait that the ACK step leaves.
 pub struct View {
-    pub found: Found,
+    pub found: Which,
     pub seen: Seen,
-    pub vacancy: Vacancy,
+    pub vacancy: Which,
     pub limits: Limits,
     pub woke: bool,
     pub open_wait: bool,
 }
 
-fn look(table: &[u64], k: u32, found: Found, header: Header) -> Seen
+fn look(table: &[u64], k: u32, found: Which, header: Header) -> Seen
     ensures { λ r. ⌜ r ≡ seenAt (now (table .entry)) k found header ⌝ }
 {
-    let Found::At(slot) = found else {
+    let Which::At(slot) = found else {
         let blank = Row::blank();
         return Seen {
             known: Known::Nowhere,
@@ -48,17 +47,17 @@ fn look(table: &[u64], k: u32, found: Found, header: Header) -> Seen
 }
 
 // The lowest free slot, looked for only where the frame may make a stream.
-fn vacancy(table: &[u64], k: u32, header: Header) -> Vacancy
+fn vacancy(table: &[u64], k: u32, header: Header) -> Which
     ensures { λ r. ⌜ r ≡ vacancyFor (now (table .entry)) k header ⌝ }
 {
     let flags = header.flags;
     if flags.contains(RST) {
-        return Vacancy::Nowhere;
+        return Which::None;
     }
     if flags.contains(SYN) {
         return connection::vacancy(table, k);
     }
-    Vacancy::Nowhere
+    Which::None
 }
 
 fn limits(c: Connection) -> Limits

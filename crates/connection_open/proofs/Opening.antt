@@ -11,7 +11,7 @@ use Rattle.frame.specs.declared.header.StreamId.{StreamId}
 use Rattle.flow_control.specs.Windows.{top}
 use Rattle.stream.specs.declared.Stream.{Stream}
 use Rattle.rules.specs.Lists.{Place, at, nowhere}
-use Rattle.rules.specs.State.{Entry, Conn, entry, vacant, isOwn, hasId, find}
+use Rattle.rules.specs.State.{Entry, Conn, entry, vacant, isOwn, hasId, find, foundOf}
 use Rattle.rules.specs.State as rules
 use Rattle.rules.specs.Frames.{newEntry}
 use Rattle.rules.specs.Calls.{open-rules}
@@ -25,7 +25,6 @@ use Rattle.table.specs.Table.{unacknowledged}
 use Rattle.rules.proofs.Lists.{first-nowhere}
 use Rattle.table.proofs.Lists.{false-of}
 use Rattle.handlers.specs.Locals.{openWith, openAction, performOpen}
-use Rattle.handlers.specs.Perform.{vacancyOf}
 use Rattle.handlers.specs.declared.Opening.the-variants as opening
 use Rattle.handlers.specs.declared.NextId.the-variants as next
 use Rattle.handlers.proofs.Locals.{open-performs}
@@ -136,7 +135,7 @@ module _ (c : Connection) (t l p : List ℕ) (now : ℕ) where
   a = absOf c t l p
 
   decided-rules : Valid c t l p
-      → decided c t now ≡ openAction (rules.listedCount (a .slots)) (c .config .«max_num_streams») (rules.unacknowledged (c .config .mode) (a .slots)) (c .«next_id») (vacancyOf (rules.lowestFree (a .slots))) now
+      → decided c t now ≡ openAction (rules.listedCount (a .slots)) (c .config .«max_num_streams») (rules.unacknowledged (c .config .mode) (a .slots)) (c .«next_id») (foundOf (rules.lowestFree (a .slots))) now
   decided-rules v =
       let m = c .memory in
       rw (sym (listed-count m t l p (v .memory)), backlog m t l p (v .memory) (c .config .mode), vacancy-rules c t l p v)
@@ -150,11 +149,11 @@ module _ (c : Connection) (t l p : List ℕ) (now : ℕ) where
       go true y z q = refl
       go false true z q = tt
       go false false true q = refl
-      go false false false Rattle.handlers.specs.declared.Vacancy.the-variants.Nowhere = tt
-      go false false false (Rattle.handlers.specs.declared.Vacancy.the-variants.At i) = tt
+      go false false false Rattle.rules.specs.declared.Which.the-variants.None = tt
+      go false false false (Rattle.rules.specs.declared.Which.the-variants.At i) = tt
 
   fits-rules : (v : Valid c t l p) (q : Place) → rules.lowestFree (a .slots) ≡ q → (x y z : Bool)
-      → Fits c t l p (cond x (opening.End reply.TooManyStreams) (cond y opening.Wait (openWith (cond z next.NoMore (next.Id (record { 0 = c .«next_id» }) (c .«next_id» + 2))) (vacancyOf q) now)))
+      → Fits c t l p (cond x (opening.End reply.TooManyStreams) (cond y opening.Wait (openWith (cond z next.NoMore (next.Id (record { 0 = c .«next_id» }) (c .«next_id» + 2))) (foundOf q) now)))
   fits-rules v q e true y z = tt
   fits-rules v q e false true z = tt
   fits-rules v q e false false true = tt

@@ -20,10 +20,10 @@ use Rattle.stream.specs.declared.Reading.the-variants as reading
 use Rattle.stream.specs.declared.Written.{Written}
 use Rattle.stream.specs.declared.Written.the-variants as written
 use Rattle.rules.specs.Lists.{Place, at, nowhere}
-use Rattle.rules.specs.State.{Entry, Conn, entry, find, withPings, withGrowth, lowestFree, listedCount, unacknowledged}
+use Rattle.rules.specs.State.{Entry, Conn, entry, find, withPings, withGrowth, lowestFree, listedCount, unacknowledged, foundOf}
 use Rattle.rules.specs.Ending.{gives}
 use Rattle.rules.specs.Calls.{openAt, open-rules, readRest, readWith, windowStep, readRules, writeWith, writeRules, closeRules, dropAt, dropRules, pingOut, tickRules}
-use Rattle.handlers.specs.Perform.{outcomeOf, perform, vacancyOf}
+use Rattle.handlers.specs.Perform.{outcomeOf, perform}
 use Rattle.handlers.specs.Locals.{writeAction, onWrite, carrying, onClose, openIn, openWith, openAction, performOpen, isShut, nothingRead, readEnded, onRead, performRead, onDrop, tableAt, freed, growthReturned, pingSent, onTick}
 use Rattle.handlers.proofs.Rules.{ListedHeld, both, livesAt, find-lives, heardBy}
 
@@ -52,19 +52,19 @@ module _ (c : Conn) (i : ℕ) (held : entry (c .slots) i .held ≡ true) where
 
 -- ---- open
 
-open-at : (c : Conn) (now : ℕ) (p : Place) → openAt p c now ≡ performOpen c (openIn (vacancyOf p) (record { 0 = c .nextId }) (c .nextId + 2) now)
+open-at : (c : Conn) (now : ℕ) (p : Place) → openAt p c now ≡ performOpen c (openIn (foundOf p) (record { 0 = c .nextId }) (c .nextId + 2) now)
 unfolding openAt performOpen
 open-at c now nowhere = refl
 open-at c now (at i) = refl
 
 pub open-performs : (c : Conn) (now : ℕ) →
     open-rules c now
-    ≡ performOpen c (openAction (listedCount (c .slots)) (c .config .«max_num_streams») (unacknowledged (c .config .mode) (c .slots)) (c .nextId) (vacancyOf (lowestFree (c .slots))) now)
+    ≡ performOpen c (openAction (listedCount (c .slots)) (c .config .«max_num_streams») (unacknowledged (c .config .mode) (c .slots)) (c .nextId) (foundOf (lowestFree (c .slots))) now)
 unfolding open-rules openAction performOpen
 open-performs c now =
     both (performOpen c) (leb (c .config .«max_num_streams») (listedCount (c .slots))) refl
     (both (performOpen c) (leb 256 (unacknowledged (c .config .mode) (c .slots))) refl
-    (both (λ x. performOpen c (openWith x (vacancyOf (lowestFree (c .slots))) now)) (ltb top (c .nextId + 2)) refl
+    (both (λ x. performOpen c (openWith x (foundOf (lowestFree (c .slots))) now)) (ltb top (c .nextId + 2)) refl
     (open-at c now (lowestFree (c .slots)))))
 
 -- ---- read

@@ -20,22 +20,22 @@ use Rattle.stream.specs.declared.Stream.{Stream}
 use Rattle.stream.specs.declared.Received.{Received}
 use Rattle.stream.specs.declared.Received.the-variants.{Taken, ProtocolError}
 use Rattle.rules.specs.Lists.{Place, at, nowhere}
-use Rattle.rules.specs.State.{Entry, Conn, entry, vacant, hasId, find, withSlot, withSlots, withStream, withOpenWait, withPings, lowestFree, room, isRemote}
+use Rattle.rules.specs.State.{Entry, Conn, entry, vacant, hasId, find, withSlot, withSlots, withStream, withOpenWait, withPings, lowestFree, room, isRemote, foundOf}
 use Rattle.rules.specs.Ending.{Result, gives}
 use Rattle.rules.specs.Frames as rules
 use Rattle.rules.specs.Frames.{Acked, openedBy, ackStep, makeAt, make, synRules, synData, synUpdate, takeAt, knownData, knownUpdate, dataRules, updateRules, pongRules, pingRules, isKnown}
 use Rattle.rules.specs.declared.Slot.{Slot}
 use Rattle.handlers.specs.Actions as actions
 use Rattle.handlers.specs.Actions.{terminate, synAction, newAction, firstData, firstUpdate, onSynData, onSynUpdate, dataTake, updateTake, onKnownData, onKnownUpdate, pongHeard, onPing}
-use Rattle.handlers.specs.Perform.{outcomeOf, perform, knownAt, vacancyOf, limitsOf, wakesOpen, withoutWait, dataAction, updateAction}
+use Rattle.handlers.specs.Perform.{outcomeOf, perform, knownAt, limitsOf, wakesOpen, withoutWait, dataAction, updateAction}
 use Rattle.handlers.specs.declared.Known.{Known}
 use Rattle.handlers.specs.declared.Known.the-variants as known
-use Rattle.handlers.specs.declared.Vacancy.{Vacancy}
-use Rattle.handlers.specs.declared.Vacancy.the-variants as vacancy
+use Rattle.rules.specs.declared.Which.{Which}
+use Rattle.rules.specs.declared.Which.the-variants as which
 use Rattle.handlers.specs.declared.Limits.{Limits}
 use Rattle.handlers.specs.declared.Action.{Action}
 use Rattle.handlers.specs.declared.Action.the-variants as action
-use Rattle.handlers.specs.declared.Pong.{Pong}
+use Rattle.handlers.specs.declared.PingStep.{PingStep}
 use Rattle.rules.proofs.Lists.{Says, first-says, sum-kept}
 
 -- every stream in the table has its handle held
@@ -71,8 +71,8 @@ module _ (c a : Conn) (woke : Bool) (h : Header) (body : List ℕ) (now : ℕ) w
   abbrev does : Action → Result
   does x = perform c a body x
 
-  abbrev free : Vacancy
-  free = vacancyOf (lowestFree (a .slots))
+  abbrev free : Which
+  free = foundOf (lowestFree (a .slots))
 
   module _ (i : Slot) (s : Stream) (lives : Lives a (i .0)) where
     -- a stream that is only put back
@@ -103,7 +103,7 @@ module _ (c a : Conn) (woke : Bool) (h : Header) (body : List ℕ) (now : ℕ) w
     update-at ProtocolError e = answered protocolError
     update-at (Taken t w) e = rw (room-kept, le-ltb (room a) 0 (omega arith), same, set-set, lives .1, lives .2)
 
-  make-at : (p : Place) (s : Stream) (n : ℕ) → length body ≡ n → makeAt p (stepped known.Nowhere) s body ≡ does (newAction (vacancyOf p) (room a) woke s n)
+  make-at : (p : Place) (s : Stream) (n : ℕ) → length body ≡ n → makeAt p (stepped known.Nowhere) s body ≡ does (newAction (foundOf p) (room a) woke s n)
   unfolding perform makeAt
   make-at nowhere s n e = refl
   make-at (at j) s n e = rw e (both does (ltb (room a) n) refl refl)
@@ -182,12 +182,12 @@ livesAt c nowhere = Unit {0}
 
 -- rules and an action that agree after any ACK step agree after the frame's own
 module _
-    (c : Conn) (h : Header) (body : List ℕ) (r : Acked → Place → Result) (q : Limits → Bool → Known → Vacancy → Action)
+    (c : Conn) (h : Header) (body : List ℕ) (r : Acked → Place → Result) (q : Limits → Bool → Known → Which → Action)
     (agree : (a : Conn) (woke : Bool) (k : Known) → LivesAt a k →
-    r (record { before = c; conn = connOf a k; woke = woke }) (placeOf k) ≡ perform c a body (q (limitsOf a) woke k (vacancyOf (lowestFree (a .slots)))))
+    r (record { before = c; conn = connOf a k; woke = woke }) (placeOf k) ≡ perform c a body (q (limitsOf a) woke k (foundOf (lowestFree (a .slots)))))
   where
-    abbrev free-in : Vacancy
-    free-in = vacancyOf (lowestFree (c .slots))
+    abbrev free-in : Which
+    free-in = foundOf (lowestFree (c .slots))
 
     at-slot : (b : Bool) (i : ℕ) → Lives c i →
         r (cond b (record { before = c; conn = withOpenWait (rules.acknowledgeAt (at i) c) false; woke = c .openWait }) (record { before = c; conn = c; woke = false })) (at i)
@@ -234,7 +234,7 @@ module _ (c : Conn) (h : Header) (now : ℕ) (held : ListedHeld c) where
   -- the rules of a Data frame are its action, performed
   pub data-performs : (body : List ℕ) → length body ≡ h .length .0 →
       dataRules (ackStep c h place) h body place now
-      ≡ perform c (withoutWait c h) body (dataAction (limitsOf c) (wakesOpen c h) (knownAt c h place) (vacancyOf (lowestFree (c .slots))) h now)
+      ≡ perform c (withoutWait c h) body (dataAction (limitsOf c) (wakesOpen c h) (knownAt c h place) (foundOf (lowestFree (c .slots))) h now)
   data-performs body e =
       acked-agree c h body (λ a p. dataRules a h body p now) (λ l w k v. dataAction l w k v h now)
       (λ a w k l. data-stepped c a w h body now k l e) place (find-lives c (h .«stream_id») held)
@@ -242,13 +242,13 @@ module _ (c : Conn) (h : Header) (now : ℕ) (held : ListedHeld c) where
   -- and so are those of a WindowUpdate
   pub update-performs :
       updateRules (ackStep c h place) h place now
-      ≡ perform c (withoutWait c h) [] (updateAction (limitsOf c) (wakesOpen c h) (knownAt c h place) (vacancyOf (lowestFree (c .slots))) h now)
+      ≡ perform c (withoutWait c h) [] (updateAction (limitsOf c) (wakesOpen c h) (knownAt c h place) (foundOf (lowestFree (c .slots))) h now)
   update-performs =
       acked-agree c h [] (λ a p. updateRules a h p now) (λ l w k v. updateAction l w k v h now)
       (λ a w k l. update-stepped c a w h [] now k l refl) place (find-lives c (h .«stream_id») held)
 
 -- the pings after a Ping frame, and its answer
-abbrev pub heardBy : Conn → Pong → Result
+abbrev pub heardBy : Conn → PingStep → Result
 heardBy c p = gives (outcomeOf (p .answer)) (withPings c (p .rtt))
 
 pong-performs : (c : Conn) (p : heard.Pong) → pongRules c p ≡ heardBy c (pongHeard (c .pings) p)
@@ -266,19 +266,19 @@ ping-performs c h now =
 
 -- ---- where the vacancy does not matter
 
-module _ (l : Limits) (woke : Bool) (k : Known) (v : Vacancy) (h : Header) (now : ℕ) where
-  pub data-without-syn : contains (h .flags) syn ≡ false → dataAction l woke k v h now ≡ dataAction l woke k vacancy.Nowhere h now
+module _ (l : Limits) (woke : Bool) (k : Known) (v : Which) (h : Header) (now : ℕ) where
+  pub data-without-syn : contains (h .flags) syn ≡ false → dataAction l woke k v h now ≡ dataAction l woke k which.None h now
   unfolding dataAction
   data-without-syn e = rw e
 
-  pub data-with-rst : contains (h .flags) rst ≡ true → dataAction l woke k v h now ≡ dataAction l woke k vacancy.Nowhere h now
+  pub data-with-rst : contains (h .flags) rst ≡ true → dataAction l woke k v h now ≡ dataAction l woke k which.None h now
   unfolding dataAction
   data-with-rst e = rw e
 
-  pub update-without-syn : contains (h .flags) syn ≡ false → updateAction l woke k v h now ≡ updateAction l woke k vacancy.Nowhere h now
+  pub update-without-syn : contains (h .flags) syn ≡ false → updateAction l woke k v h now ≡ updateAction l woke k which.None h now
   unfolding updateAction
   update-without-syn e = rw e
 
-  pub update-with-rst : contains (h .flags) rst ≡ true → updateAction l woke k v h now ≡ updateAction l woke k vacancy.Nowhere h now
+  pub update-with-rst : contains (h .flags) rst ≡ true → updateAction l woke k v h now ≡ updateAction l woke k which.None h now
   unfolding updateAction
   update-with-rst e = rw e

@@ -30,11 +30,9 @@ use Rattle.rules.specs.declared.Woke.{Woke}
 use Rattle.handlers.specs.declared.Answer.{Answer}
 use Rattle.handlers.specs.declared.Known.{Known}
 use Rattle.handlers.specs.declared.Known.the-variants as known
-use Rattle.handlers.specs.declared.Vacancy.{Vacancy}
-use Rattle.handlers.specs.declared.Vacancy.the-variants as vacancy
 use Rattle.handlers.specs.declared.Action.{Action}
 use Rattle.handlers.specs.declared.Action.the-variants as action
-use Rattle.handlers.specs.declared.Pong.{Pong}
+use Rattle.handlers.specs.declared.PingStep.{PingStep}
 use Rattle.handlers.specs.declared.Limits.{Limits}
 
 -- ---- answers; `woke` says whether the ACK step woke an open
@@ -87,29 +85,29 @@ synAction l woke k id full next =
     cond (isRemote (l .mode) id) (unknownSyn l woke k full next) (answerKnown k (terminate woke protocolError))
 
 -- a new stream in the lowest free slot, with a body of n bytes
-abbrev pub newAction : Vacancy → ℕ → Bool → Stream → ℕ → Action
-newAction vacancy.Nowhere room woke s n = action.Refuse reply.NoSlot
-newAction (vacancy.At i) room woke s n =
+abbrev pub newAction : Which → ℕ → Bool → Stream → ℕ → Action
+newAction which.None room woke s n = action.Refuse reply.NoSlot
+newAction (which.At i) room woke s n =
     cond (ltb room n) (action.Refuse reply.NoRoom) (action.New i s (done woke (which.At i) (value.Of (s .id .0)) Nothing quiet))
 
 -- the stream that a first Data frame makes, and a first WindowUpdate
-abbrev pub firstData : ℕ → Bool → Vacancy → Header → ℕ → Action
+abbrev pub firstData : ℕ → Bool → Which → Header → ℕ → Action
 firstData room woke v h now =
     cond (ltb initialWindow (h .length .0))
     (action.Answer (terminate woke protocolError))
     (newAction v room woke (dataTaken (newInbound (h .«stream_id») initialWindow now) (h .length .0) (contains (h .flags) fin)) (h .length .0))
 
-abbrev pub firstUpdate : ℕ → Bool → Vacancy → Header → ℕ → Action
+abbrev pub firstUpdate : ℕ → Bool → Which → Header → ℕ → Action
 firstUpdate room woke v h now =
     cond (ltb top (h .length .0 + initialWindow))
     (action.Answer (terminate woke protocolError))
     (newAction v room woke (openedBy h now) 0)
 
-unfoldable pub onSynData : Limits → Bool → Known → Vacancy → Header → ℕ → Action
+unfoldable pub onSynData : Limits → Bool → Known → Which → Header → ℕ → Action
 onSynData l woke k v h now =
     synAction l woke k (h .«stream_id») (terminate woke internalError) (firstData (l .room) woke v h now)
 
-unfoldable pub onSynUpdate : Limits → Bool → Known → Vacancy → Header → ℕ → Action
+unfoldable pub onSynUpdate : Limits → Bool → Known → Which → Header → ℕ → Action
 onSynUpdate l woke k v h now =
     synAction l woke k (h .«stream_id») (terminate woke protocolError) (firstUpdate (l .room) woke v h now)
 
@@ -140,14 +138,14 @@ onKnownUpdate woke (known.At i s) h =
 
 -- ---- Ping
 
-abbrev pub pongHeard : Rtt → heard.Pong → Pong
+abbrev pub pongHeard : Rtt → heard.Pong → PingStep
 pongHeard r Unexpected = record { rtt = r; answer = terminate false protocolError }
 pongHeard r (Accepted p) = record { rtt = p; answer = noAction false }
 
-abbrev pub pingHeard : Rtt → ℕ → Pong
+abbrev pub pingHeard : Rtt → ℕ → PingStep
 pingHeard r n = record { rtt = r; answer = done false which.None (value.Of n) (Frame (withAck (pingHeader n))) quiet }
 
-unfoldable pub onPing : Rtt → Bool → Header → ℕ → ℕ → Pong
+unfoldable pub onPing : Rtt → Bool → Header → ℕ → ℕ → PingStep
 onPing r inTable h now interval =
     cond (contains (h .flags) ack)
     (pongHeard r (handlePong r (h .length .0) now interval))

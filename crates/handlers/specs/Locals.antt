@@ -36,11 +36,10 @@ use Rattle.handlers.specs.Actions.{done, noAction}
 use Rattle.handlers.specs.declared.Answer.{Answer}
 use Rattle.handlers.specs.declared.Known.{Known}
 use Rattle.handlers.specs.declared.Known.the-variants as known
-use Rattle.handlers.specs.declared.Vacancy.{Vacancy}
-use Rattle.handlers.specs.declared.Vacancy.the-variants as vacancy
+use Rattle.rules.specs.declared.Which.{Which}
 use Rattle.handlers.specs.declared.Action.{Action}
 use Rattle.handlers.specs.declared.Action.the-variants as action
-use Rattle.handlers.specs.declared.Pong.{Pong}
+use Rattle.handlers.specs.declared.PingStep.{PingStep}
 use Rattle.handlers.specs.declared.NextId.{NextId}
 use Rattle.handlers.specs.declared.NextId.the-variants as next
 use Rattle.handlers.specs.declared.Opening.{Opening}
@@ -93,16 +92,16 @@ onClose i s listed = action.Store i (stream.close s .stream) listed (slotAnswer 
 abbrev pub nextStreamId : ℕ → NextId
 nextStreamId n = cond (ltb top (n + 2)) next.NoMore (next.Id (record { 0 = n }) (n + 2))
 
-abbrev pub openIn : Vacancy → StreamId → ℕ → ℕ → Opening
-openIn vacancy.Nowhere id after now = opening.Refuse reply.NoSlot
-openIn (vacancy.At i) id after now = opening.New i (stream.newOutbound id now) after
+abbrev pub openIn : Which → StreamId → ℕ → ℕ → Opening
+openIn which.None id after now = opening.Refuse reply.NoSlot
+openIn (which.At i) id after now = opening.New i (stream.newOutbound id now) after
 
-abbrev pub openWith : NextId → Vacancy → ℕ → Opening
+abbrev pub openWith : NextId → Which → ℕ → Opening
 openWith next.NoMore v now = opening.End reply.NoMoreStreamIds
 openWith (next.Id id after) v now = openIn v id after now
 
 -- "Open: table at M or more, 3; 256 or more own-parity streams Open and unacknowledged, wait"
-unfoldable pub openAction : ℕ → ℕ → ℕ → ℕ → Vacancy → ℕ → Opening
+unfoldable pub openAction : ℕ → ℕ → ℕ → ℕ → Which → ℕ → Opening
 openAction listed m backlog nextId v now =
     cond (leb m listed)
     (opening.End reply.TooManyStreams)
@@ -173,10 +172,10 @@ growthReturned growth s = growth - (s .flow .«max_receive_window» - initialWin
 
 -- ---- tick
 
-abbrev pub pingSent : Rtt → NextPing → Pong
+abbrev pub pingSent : Rtt → NextPing → PingStep
 pingSent r ask.None = record { rtt = r; answer = noAction false }
 pingSent r (ask.Ping h) = record { rtt = r; answer = done false which.None (value.Of (h .length .0)) (Frame h) quiet }
 
 -- "no ping outstanding and due time <= now: Ping SYN with the next id .. No ping to send: done."
-unfoldable pub onTick : Rtt → ℕ → Pong
+unfoldable pub onTick : Rtt → ℕ → PingStep
 onTick r now = pingSent (nextPing r now .rtt) (nextPing r now .ping)

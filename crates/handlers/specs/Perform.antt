@@ -14,8 +14,8 @@ use Rattle.handlers.specs.Actions.{acked, onReset, onSynData, onSynUpdat
 use Rattle.handlers.specs.declared.Answer.{Answer}
 use Rattle.handlers.specs.declared.Known.{Known}
 use Rattle.handlers.specs.declared.Known.the-variants as known
-use Rattle.handlers.specs.declared.Vacancy.{Vacancy}
-use Rattle.handlers.specs.declared.Vacancy.the-variants as vacancy
+use Rattle.rules.specs.declared.Which.{Which}
+use Rattle.rules.specs.declared.Which.the-variants as which
 use Rattle.handlers.specs.declared.Limits.{Limits}
 use Rattle.handlers.specs.declared.Action.{Action}
 use Rattle.handlers.specs.declared.Action.the-variants as action
@@ -43,10 +43,6 @@ abbrev pub knownAt : Conn → Header → Place → Known
 knownAt c h nowhere = known.Nowhere
 knownAt c h (at i) = known.At (record { 0 = i }) (acked h (entry (c .slots) i .stream))
 
-abbrev pub vacancyOf : Place → Vacancy
-vacancyOf nowhere = vacancy.Nowhere
-vacancyOf (at i) = vacancy.At (record { 0 = i })
-
 abbrev pub limitsOf : Conn → Limits
 limitsOf c = record { mode = c .config .mode; «max_num_streams» = c .config .«max_num_streams»; listed = listedCount (c .slots); room = room c }
 
@@ -58,13 +54,13 @@ abbrev pub withoutWait : Conn → Header → Conn
 withoutWait c h = cond (contains (h .flags) ack) (withOpenWait c false) c
 
 -- the action of a Data frame, and of a WindowUpdate
-unfoldable pub dataAction : Limits → Bool → Known → Vacancy → Header → ℕ → Action
+unfoldable pub dataAction : Limits → Bool → Known → Which → Header → ℕ → Action
 dataAction l woke k v h now =
     cond (contains (h .flags) rst)
     (onReset woke k)
     (cond (contains (h .flags) syn) (onSynData l woke k v h now) (onKnownData (l .room) woke k h))
 
-unfoldable pub updateAction : Limits → Bool → Known → Vacancy → Header → ℕ → Action
+unfoldable pub updateAction : Limits → Bool → Known → Which → Header → ℕ → Action
 updateAction l woke k v h now =
     cond (contains (h .flags) rst)
     (onReset woke k)

@@ -5,7 +5,7 @@ ghost use Rattle.frame.specs.Header.{initialWindow};
 ghost use Rattle.handlers.specs.Locals.{writeAction, onWrite, onClose, onDrop, growthReturned, pingSent, onTick};
 use crate::Action;
 use crate::Known;
-use crate::Pong;
+use crate::PingStep;
 use crate::answers;
 use frame::header::DEFAULT_CREDIT;
 use rtt::NextPing;
@@ -103,12 +103,12 @@ pub fn growth_returned(growth: u64, stream: Stream) -> u64
     growth - returned
 }
 
-fn ping_sent(rtt: Rtt, ping: NextPing) -> Pong
+fn ping_sent(rtt: Rtt, ping: NextPing) -> PingStep
     ensures { λ r. ⌜ r ≡ pingSent rtt ping ⌝ }
 {
     let NextPing::Ping(header) = ping else {
         let answer = answers::no_action(false);
-        return Pong { rtt, answer };
+        return PingStep { rtt, answer };
     };
     let quiet = Wakes {
         reader: false,
@@ -122,11 +122,11 @@ fn ping_sent(rtt: Rtt, ping: NextPing) -> Pong
         Sent::Frame(header),
         quiet,
     );
-    Pong { rtt, answer }
+    PingStep { rtt, answer }
 }
 
 // The ping that is due, if one is.
-pub fn on_tick(rtt: Rtt, now: u64) -> Pong
+pub fn on_tick(rtt: Rtt, now: u64) -> PingStep
     ensures { λ r. ⌜ r ≡ onTick rtt now ⌝ }
 {
     let pinged = rtt.next_ping(now);

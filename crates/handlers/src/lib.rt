@@ -40,12 +40,6 @@ pub enum Known {
     Nowhere,
 }
 
-// The lowest free slot.
-pub enum Vacancy {
-    At(Slot),
-    Nowhere,
-}
-
 // What a frame or a call on a handle does to the table and the pool.
 pub enum Action {
     // Nothing: all is as before.
@@ -61,7 +55,7 @@ pub enum Action {
 }
 
 // The pings after a Ping frame or a tick, and what it answers.
-pub struct Pong {
+pub struct PingStep {
     pub rtt: Rtt,
     pub answer: Answer,
 }
@@ -128,7 +122,7 @@ pub fn on_data(
     limits: Limits,
     woke: bool,
     known: Known,
-    vacancy: Vacancy,
+    vacancy: Which,
     header: Header,
     now: u64,
 ) -> Action
@@ -149,7 +143,7 @@ pub fn on_window_update(
     limits: Limits,
     woke: bool,
     known: Known,
-    vacancy: Vacancy,
+    vacancy: Which,
     header: Header,
     now: u64,
 ) -> Action

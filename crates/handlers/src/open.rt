@@ -3,9 +3,9 @@ ghost use mathlib.Core.Path.{_≡_};
 ghost use Rattle.handlers.specs.Locals.{nextStreamId, openIn, openWith, openAction};
 use crate::NextId;
 use crate::Opening;
-use crate::Vacancy;
 use frame::header::StreamId;
 use rules::Reply;
+use rules::Which;
 use stream::Stream;
 
 // The last id that is given.
@@ -24,17 +24,17 @@ pub fn next_stream_id(next_id: u32) -> NextId
     NextId::Id(StreamId(next_id), next_id + 2)
 }
 
-fn open_in(vacancy: Vacancy, id: StreamId, after: u32, now: u64) -> Opening
+fn open_in(vacancy: Which, id: StreamId, after: u32, now: u64) -> Opening
     ensures { λ r. ⌜ r ≡ openIn vacancy id after now ⌝ }
 {
-    let Vacancy::At(slot) = vacancy else {
+    let Which::At(slot) = vacancy else {
         return Opening::Refuse(Reply::NoSlot);
     };
     let stream = Stream::new_outbound(id, now);
     Opening::New(slot, stream, after)
 }
 
-fn open_with(next: NextId, vacancy: Vacancy, now: u64) -> Opening
+fn open_with(next: NextId, vacancy: Which, now: u64) -> Opening
     ensures { λ r. ⌜ r ≡ openWith next vacancy now ⌝ }
 {
     let NextId::Id(id, after) = next else {
@@ -49,7 +49,7 @@ pub fn open_action(
     max_num_streams: u32,
     backlog: u32,
     next_id: u32,
-    vacancy: Vacancy,
+    vacancy: Which,
     now: u64,
 ) -> Opening
     ensures { λ r. ⌜ r ≡ openAction listed «max_num_streams» backlog «next_id» vacancy now ⌝ }

@@ -1,7 +1,7 @@
 // Pings and pongs.
 ghost use mathlib.Core.Path.{_≡_};
 ghost use Rattle.handlers.specs.Actions.{pongHeard, pingHeard, onPing};
-use crate::Pong;
+use crate::PingStep;
 use crate::answers;
 use frame::header::ACK;
 use frame::header::Header;
@@ -11,19 +11,19 @@ use rules::Which;
 use stream::Sent;
 use stream::Wakes;
 
-fn pong_heard(rtt: Rtt, heard: rtt::Pong) -> Pong
+fn pong_heard(rtt: Rtt, heard: rtt::Pong) -> PingStep
     ensures { λ r. ⌜ r ≡ pongHeard rtt heard ⌝ }
 {
     let rtt::Pong::Accepted(after) = heard else {
         let answer = answers::protocol_error(false);
-        return Pong { rtt, answer };
+        return PingStep { rtt, answer };
     };
     let answer = answers::no_action(false);
-    Pong { rtt: after, answer }
+    PingStep { rtt: after, answer }
 }
 
 // The answer to a Ping that asks.
-fn ping_heard(rtt: Rtt, value: u32) -> Pong
+fn ping_heard(rtt: Rtt, value: u32) -> PingStep
     ensures { λ r. ⌜ r ≡ pingHeard rtt value ⌝ }
 {
     let quiet = Wakes {
@@ -38,11 +38,11 @@ fn ping_heard(rtt: Rtt, value: u32) -> Pong
         Sent::Frame(header),
         quiet,
     );
-    Pong { rtt, answer }
+    PingStep { rtt, answer }
 }
 
 // What a Ping does; `in_table` says whether its stream is in the table.
-pub fn on_ping(rtt: Rtt, in_table: bool, header: Header, now: u64, interval: u64) -> Pong
+pub fn on_ping(rtt: Rtt, in_table: bool, header: Header, now: u64, interval: u64) -> PingStep
     ensures { λ r. ⌜ r ≡ onPing rtt «in_table» header now interval ⌝ }
 {
     let flags = header.flags;
@@ -59,5 +59,5 @@ pub fn on_ping(rtt: Rtt, in_table: bool, header: Header, now: u64, interval: u64
         return ping_heard(rtt, value);
     }
     let answer = answers::no_action(false);
-    Pong { rtt, answer }
+    PingStep { rtt, answer }
 }

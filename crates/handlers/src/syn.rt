@@ -6,7 +6,6 @@ use crate::Action;
 use crate::Answer;
 use crate::Known;
 use crate::Limits;
-use crate::Vacancy;
 use crate::answers;
 use frame::header::DEFAULT_CREDIT;
 use frame::header::FIN;
@@ -74,10 +73,10 @@ fn syn_action(
 }
 
 // The stream in the lowest free slot, with a body of n bytes.
-fn new_action(vacancy: Vacancy, room: u32, woke: bool, stream: Stream, n: u32) -> Action
+fn new_action(vacancy: Which, room: u32, woke: bool, stream: Stream, n: u32) -> Action
     ensures { λ r. ⌜ r ≡ newAction vacancy room woke stream n ⌝ }
 {
-    let Vacancy::At(slot) = vacancy else {
+    let Which::At(slot) = vacancy else {
         return Action::Refuse(Reply::NoSlot);
     };
     if room < n {
@@ -97,7 +96,7 @@ fn new_action(vacancy: Vacancy, room: u32, woke: bool, stream: Stream, n: u32) -
     Action::New(slot, stream, answer)
 }
 
-fn first_data(room: u32, woke: bool, vacancy: Vacancy, header: Header, now: u64) -> Action
+fn first_data(room: u32, woke: bool, vacancy: Which, header: Header, now: u64) -> Action
     ensures { λ r. ⌜ r ≡ firstData room woke vacancy header now ⌝ }
 {
     let flags = header.flags;
@@ -111,7 +110,7 @@ fn first_data(room: u32, woke: bool, vacancy: Vacancy, header: Header, now: u64)
     new_action(vacancy, room, woke, stream, header.length.0)
 }
 
-fn first_update(room: u32, woke: bool, vacancy: Vacancy, header: Header, now: u64) -> Action
+fn first_update(room: u32, woke: bool, vacancy: Which, header: Header, now: u64) -> Action
     ensures { λ r. ⌜ r ≡ firstUpdate room woke vacancy header now ⌝ }
 {
     let flags = header.flags;
@@ -130,7 +129,7 @@ pub fn on_syn_data(
     limits: Limits,
     woke: bool,
     known: Known,
-    vacancy: Vacancy,
+    vacancy: Which,
     header: Header,
     now: u64,
 ) -> Action
@@ -145,7 +144,7 @@ pub fn on_syn_update(
     limits: Limits,
     woke: bool,
     known: Known,
-    vacancy: Vacancy,
+    vacancy: Which,
     header: Header,
     now: u64,
 ) -> Action

@@ -2,7 +2,7 @@
 use mathlib.Core.Bool.{Bool, true, false}
 use mathlib.Core.List.{List, [], _++_}
 use mathlib.Core.Path.{_≡_, refl, sym, ap, _∙_}
-use Prim.Native.Nat.{ℕ, _+_, _-_, _%_, _^_, _≤_, _<_}
+use Prim.Native.Nat.{ℕ, _+_, _-_, _%_, _^_, min, _≤_, _<_}
 use native.Mathlib.Decide.{ℕ-discrete}
 use native.Mathlib.Omega.{arith}
 use borrow.Author.Tests.{eq-eqb}
@@ -228,20 +228,20 @@ module _ (m : Memory) (t l p : List ℕ) (v : Valid m t l p) (i : ℕ) (below : 
   pub drain-moves : (s : Stream) → Follows old s (old .listed) → (out t′ l′ out′ : List ℕ) (r : Popped) (unread : ℕ)
       → Pops l p (m .free) (row .queue) out l′ out′ r → length l′ ≡ length l
       → t′ ≡ stored t K i (next s (row .listed) (r .queue)) → Proper (next s (row .listed) (r .queue)) → unread ≡ m .unread - r .count
-      → Drained m t l p i s out (r .count) (counted m (r .free) (m .listed) unread) t′ l′ out′
+      → Drained m t l p i s out (min (length out) (length (old .bytes))) (counted m (r .free) (m .listed) unread) t′ l′ out′
   drain-moves s follows out t′ l′ out′ r unread pops el et proper e =
       let b : old .listed ≡ row .listed = rw loaded (entry-listed m t l p v i below) in
       let bytes = bytes-were s (old .listed) follows in
       let w = pop-shared K (m .pool) l p (m .free) (queues rs) (v .shared) i below out l′ out′ r (rw own-queue pops) el in
       let n : many.nth (queues rs) i .unread ≡ length (old .bytes) = rw (own-queue, loaded) (sym (entry-unread m t l p v i below)) in
-      record {
-        count = rw (← n) (w .0);
+      let count : r .count ≡ min (length out) (length (old .bytes)) = rw (← n) (w .0) in
+      rw (← count) (record {
         gave = rw (← bytes) (w .1);
         moved =
             followed s (old .listed) follows (r .queue) (drop (r .count) (old .bytes)) t′ l′ p (r .free) (m .listed) unread
             (rw b et) (rw b proper) (rw (← bytes) (w .2)) el refl
             (pop-advances out l′ out′ r pops) (rw b (stays (row .listed))) (omega (arith, w .3, v .unread)) (omega (arith, v .within));
-      }
+      })
     where
       stays : (b : Bool) → m .listed ≡ left (m .listed) b b
       stays true = refl

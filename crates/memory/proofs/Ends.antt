@@ -11,13 +11,14 @@ use Rattle.chunks.specs.declared.Free.{Free}
 use Rattle.chunks.proofs.Shared.{start-shared}
 use Rattle.rules.specs.Lists.{sum}
 use Rattle.rules.specs.State.{vacant, one}
+use Rattle.rules.specs.Ending.{endEntry}
 use Rattle.table.specs.Rows.{blank, endRow}
 use Rattle.table.specs.Table.{size, rowAt, view, ended, nth, zeros}
 use Rattle.table.specs.declared.row.Row.{Row}
 use Rattle.table.proofs.Laws.{length-view, nth-view, proper-row, length-ended, view-ended, tied-ended, view-init, tied-init}
 use Rattle.table.proofs.Searches.{distinct-none}
 use Rattle.memory.specs.Counts.{counted}
-use Rattle.memory.specs.Moves.{Ended, Starts}
+use Rattle.memory.specs.Moves.{Becomes, Starts}
 use Rattle.memory.specs.Slots.{queues, slotsOf, Sized, Valid}
 use Rattle.memory.specs.declared.Memory.{Memory}
 use Rattle.memory.proofs.Starts.{queue-stays}
@@ -64,7 +65,7 @@ module _ (m : Memory) (t l p : List ℕ) (v : Valid m t l p) (t′ : List ℕ) (
     within = v .within;
   }
 
-  pub end-moves : Ended m t l p (counted m (m .free) 0 (m .unread)) t′
+  pub end-moves : Becomes m t (map endEntry (slotsOf m t l p)) (counted m (m .free) 0 (m .unread)) t′ l p
   unfolding slotsOf
   end-moves = record {
     valid = valid-ended;

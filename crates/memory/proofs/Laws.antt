@@ -16,15 +16,15 @@ use Rattle.chunks.specs.Store.{content, none}
 use Rattle.chunks.specs.declared.Queue.{Queue}
 use Rattle.chunks.proofs.Shared.{contents-nth, content-sized}
 use Rattle.rules.specs.Lists.{at}
-use Rattle.rules.specs.State.{Entry, vacant, entry, one, listedCount, unreadTotal}
+use Rattle.rules.specs.State.{Entry, vacant, entry, one, listedCount, unreadTotal, foundOf}
 use Rattle.rules.specs.State as rules
 use Rattle.rules.specs.declared.Mode.{Mode}
 use Rattle.table.specs.Rows.{Proper, blank}
 use Rattle.table.specs.Rows as rows
-use Rattle.table.specs.Table.{rowAt, view, nth, foundOf, Finds}
+use Rattle.table.specs.Table.{rowAt, view, nth, Finds}
 use Rattle.table.specs.Table as table
 use Rattle.table.specs.declared.row.Row.{Row}
-use Rattle.table.specs.declared.Found.{Found}
+use Rattle.rules.specs.declared.Which.{Which}
 use Rattle.table.proofs.Laws.{length-view, nth-view}
 use Rattle.rules.proofs.Lists.{both, Says, first-says, first-same, sum-same}
 use Rattle.table.proofs.Searches.{found, lowest}
@@ -151,7 +151,7 @@ module _ (m : Memory) (t l p : List ℕ) (v : Valid m t l p) where
   as-many = length-view t K ∙ sym slots-length
 
   -- 01: "id in the table". The table's search finds the slot that the rules do.
-  pub find-slots : (id : StreamId) (f : Found) → Finds t (m .slots) id f → f ≡ foundOf (rules.find (slotsOf m t l p) id)
+  pub find-slots : (id : StreamId) (f : Which) → Finds t (m .slots) id f → f ≡ foundOf (rules.find (slotsOf m t l p) id)
   find-slots id f h =
       found t K id (v .sized .table) (v .tied) (v .distinct) f h
       ∙ ap foundOf (first-same (rows.hasId id) (rules.hasId id) rs (slotsOf m t l p) blank vacant as-many

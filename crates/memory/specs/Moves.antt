@@ -27,12 +27,16 @@ Advances m t m′ t′ =
     → rowAt t′ (m′ .slots) i .queue .from
     ≡ startOf (rowAt t (m .slots) i .queue .from) (rowAt t (m .slots) i .queue .unread) (rowAt t′ (m′ .slots) i .queue .unread)
 
--- valid again, of the same sizes, with the entry e at slot i and every other slot as it was
-pub record Moved (m : Memory) (t l p : List ℕ) (i : ℕ) (e : Entry) (m′ : Memory) (t′ l′ p′ : List ℕ) : Type 0 where
+-- valid again, of the same sizes, each queue past the bytes read of it, and these the slots
+pub record Becomes (m : Memory) (t : List ℕ) (es : List Entry) (m′ : Memory) (t′ l′ p′ : List ℕ) : Type 0 where
   pub valid : Valid m′ t′ l′ p′
-  pub slots : slotsOf m′ t′ l′ p′ ≡ set (slotsOf m t l p) i e
+  pub slots : slotsOf m′ t′ l′ p′ ≡ es
   pub same : (m′ .slots ≡ m .slots) × (m′ .pool ≡ m .pool)
   pub advances : Advances m t m′ t′
+
+-- the entry e at slot i, and every other slot as it was
+abbrev pub Moved : Memory → List ℕ → List ℕ → List ℕ → ℕ → Entry → Memory → List ℕ → List ℕ → List ℕ → Type 0
+Moved m t l p i e m′ t′ l′ p′ = Becomes m t (set (slotsOf m t l p) i e) m′ t′ l′ p′
 
 -- the entry with the stream s, in the table or not, and these unread bytes
 abbrev pub held : Stream → Bool → List ℕ → Entry
@@ -58,14 +62,13 @@ Feeds m t l p i row s listed b m′ t′ l′ p′ =
 
 -- the same, with the oldest n bytes moved to the front of out, which is else as it was
 pub record Drained (m : Memory) (t l p : List ℕ) (i : ℕ) (s : Stream) (out : List ℕ) (n : ℕ) (m′ : Memory) (t′ l′ out′ : List ℕ) : Type 0 where
-  pub count : n ≡ min (length out) (length (entry (slotsOf m t l p) i .bytes))
   pub gave : out′ ≡ take n (entry (slotsOf m t l p) i .bytes) ++ drop n out
   pub moved : Moved m t l p i (held s (entry (slotsOf m t l p) i .listed) (drop n (entry (slotsOf m t l p) i .bytes))) m′ t′ l′ p
 
-abbrev pub Drains : Memory → List ℕ → List ℕ → List ℕ → ℕ → Row → Stream → List ℕ → ℕ → Memory → List ℕ → List ℕ → List ℕ → Type 0
-Drains m t l p i row s out n m′ t′ l′ out′ =
+abbrev pub Drains : Memory → List ℕ → List ℕ → List ℕ → ℕ → Row → Stream → List ℕ → Memory → List ℕ → List ℕ → List ℕ → Type 0
+Drains m t l p i row s out m′ t′ l′ out′ =
     row ≡ rowAt t (m .slots) i → Valid m t l p → i < m .slots → Follows (entry (slotsOf m t l p) i) s (entry (slotsOf m t l p) i .listed)
-    → Drained m t l p i s out n m′ t′ l′ out′
+    → Drained m t l p i s out (min (length out) (length (entry (slotsOf m t l p) i .bytes))) m′ t′ l′ out′
 
 -- a new stream takes the free slot i, with b queued; no stream in the table has its id
 abbrev pub Makes : Memory → List ℕ → List ℕ → List ℕ → ℕ → Stream → List ℕ → Memory → List ℕ → List ℕ → List ℕ → Type 0
@@ -80,14 +83,8 @@ Frees m t l i row m′ t′ l′ =
     (p : List ℕ) → row ≡ rowAt t (m .slots) i → Valid m t l p → i < m .slots → entry (slotsOf m t l p) i .held ≡ true → Moved m t l p i vacant m′ t′ l′ p
 
 -- 01: "Ending empties the table, makes each stream in it Closed, clears all waits; held handles and unread bytes stay."
-pub record Ended (m : Memory) (t l p : List ℕ) (m′ : Memory) (t′ : List ℕ) : Type 0 where
-  pub valid : Valid m′ t′ l p
-  pub slots : slotsOf m′ t′ l p ≡ map endEntry (slotsOf m t l p)
-  pub same : (m′ .slots ≡ m .slots) × (m′ .pool ≡ m .pool)
-  pub advances : Advances m t m′ t′
-
 abbrev pub Ends : Memory → List ℕ → Memory → List ℕ → Type 0
-Ends m t m′ t′ = (l p : List ℕ) → Valid m t l p → Ended m t l p m′ t′
+Ends m t m′ t′ = (l p : List ℕ) → Valid m t l p → Becomes m t (map endEntry (slotsOf m t l p)) m′ t′ l p
 
 -- memory laid out anew, for K slots and P bytes: K free slots
 pub record Starts (K P : ℕ) (m : Memory) (t l : List ℕ) : Type 0 where

@@ -19,12 +19,6 @@ pub struct Memory {
     pub unread: u32,
 }
 
-// What a read leaves, and how many bytes it gave.
-pub struct Drawn {
-    pub memory: Memory,
-    pub count: usize,
-}
-
 // How many numbers have 32 bits.
 const RANGE: usize = 4294967296;
 
@@ -79,7 +73,7 @@ pub fn table_fits(k: u32, table_len: usize) -> bool
     table_len == size
 }
 
-// The same with links, for k slots and p bytes.
+// Whether a lent table and lent links of these lengths have the sizes for k slots and p bytes.
 pub fn links_fit(k: u32, p: u32, table_len: usize, links_len: usize) -> bool
     ensures { λ r. ⌜ r ≡ linksFit k p «table_len» «links_len» ⌝ }
 {
@@ -90,7 +84,7 @@ pub fn links_fit(k: u32, p: u32, table_len: usize, links_len: usize) -> bool
     false
 }
 
-// The same with a pool.
+// Whether a lent table, links and pool of these lengths have the sizes for k slots and p bytes.
 pub fn fits(k: u32, p: u32, table_len: usize, links_len: usize, pool_len: usize) -> bool
     ensures { λ r. ⌜ r ≡ fits k p «table_len» «links_len» «pool_len» ⌝ }
 {
@@ -128,16 +122,15 @@ impl Memory {
         }
     }
 
-    // The same memory, with these free blocks and counts.
+    // The memory with these free blocks and counts.
     fn counted(self, free: Free, listed: u32, unread: u32) -> Memory
         ensures { λ r. ⌜ r ≡ counted self free listed unread ⌝ }
     {
         Memory {
-            slots: self.slots,
-            pool: self.pool,
             free,
             listed,
             unread,
+            ..self
         }
     }
 
@@ -160,7 +153,7 @@ impl Memory {
         )
     }
 
-    // The same, with body after the unread bytes.
+    // Puts the stream at its slot, with body after the unread bytes.
     pub fn feed(
         self,
         table: &mut [u64],
@@ -180,7 +173,7 @@ impl Memory {
         self.counted(pushed.free, count, more(self.unread, body.len()))
     }
 
-    // The same, with the oldest bytes moved to out.
+    // The stream at its slot, with the oldest bytes moved to out, as many as there are and it has room for.
     pub fn drain(
         self,
         table: &mut [u64],
@@ -190,14 +183,12 @@ impl Memory {
         row: Row,
         stream: Stream,
         out: &mut [u8],
-    ) -> Drawn
-        ensures { λ r. ⌜ Drains self (now (table .entry)) (now (links .entry)) (now (pool .entry)) (slot .0) row stream (now (out .entry)) (r .count) (r .memory) (now (table .exit)) (now (links .exit)) (now (out .exit)) ⌝ }
+    ) -> Memory
+        ensures { λ r. ⌜ Drains self (now (table .entry)) (now (links .entry)) (now (pool .entry)) (slot .0) row stream (now (out .entry)) r (now (table .exit)) (now (links .exit)) (now (out .exit)) ⌝ }
     {
         let popped = chunks::pop(links, pool, self.free, row.queue, out);
-        let count = popped.count;
         put(table, self.slots, slot, stream, row.listed, popped.queue);
-        let memory = self.counted(popped.free, self.listed, less(self.unread, count));
-        Drawn { memory, count }
+        self.counted(popped.free, self.listed, less(self.unread, popped.count))
     }
 
     // Puts a new stream at a free slot, with body queued.

@@ -11,10 +11,12 @@ use Rattle.rtt.specs.declared.Rtt.{Rtt}
 use Rattle.stream.specs.States.{isPendingAck}
 use Rattle.stream.specs.Streams.{newOutbound}
 use Rattle.stream.specs.declared.Stream.{Stream}
-use Rattle.rules.specs.Lists.{Place, first, sum}
+use Rattle.rules.specs.Lists.{Place, at, nowhere, first, sum}
 use Rattle.rules.specs.declared.Config.{Config}
 use Rattle.rules.specs.declared.Mode.{Mode}
 use Rattle.rules.specs.declared.Mode.the-variants.{Client, Server}
+use Rattle.rules.specs.declared.Which.{Which}
+use Rattle.rules.specs.declared.Which.the-variants as which
 
 -- A slot: whether its handle is held, whether its stream is in the table, the stream, and the bytes not read yet.
 pub record Entry : Type 0 where
@@ -138,6 +140,11 @@ isFree e = cond (e .held) false true
 
 abbrev pub lowestFree : List Entry → Place
 lowestFree es = first isFree es
+
+-- a place as the code has it: a slot, or none
+abbrev pub foundOf : Place → Which
+foundOf (at i) = which.At (record { 0 = i })
+foundOf nowhere = which.None
 
 -- the streams in the table
 abbrev pub listedCount : List Entry → ℕ

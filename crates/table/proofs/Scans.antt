@@ -12,12 +12,12 @@ use lib.ListN.{length, getD, take, drop, length-take, drop-of-length-le, List·g
 use lib.Seq.{getD-take}
 use Rattle.frame.specs.declared.header.StreamId.{StreamId}
 use Rattle.rules.specs.Lists.{Place, at, nowhere, first, sum}
-use Rattle.rules.specs.State.{one}
+use Rattle.rules.specs.State.{one, foundOf}
 use Rattle.rules.specs.declared.Mode.{Mode}
 use Rattle.table.specs.Rows.{isUnacknowledged, blank}
-use Rattle.table.specs.Table.{foundOf, scanned, Finds, rowAt, view, unacknowledged}
+use Rattle.table.specs.Table.{scanned, Finds, rowAt, view, unacknowledged}
 use Rattle.table.specs.declared.row.Row.{Row}
-use Rattle.table.specs.declared.Found.the-variants.{At, Nowhere}
+use Rattle.rules.specs.declared.Which.the-variants.{At, None}
 use Rattle.rules.proofs.Lists.{Says, first-says, first-at, first-nowhere, sum-drop}
 use Rattle.table.proofs.Lists.{length-tabulate, getD-tabulate}
 
@@ -38,7 +38,7 @@ module _ (t : List ℕ) (k key : ℕ) where
       ap foundOf (sym (first-at is (take k t) i 0 (omega (arith, length-take k t)) (missed i (omega arith) none)
       (ap is (getD-take k t i 0 (omega arith)) ∙ eq-eqb (getD t i 0) key e)))
 
-  pub scan-nowhere : ((j : ℕ) → j < min k (length t) → getD t j 0 ≡ key → ⊥) → Nowhere ≡ scanned t k key
+  pub scan-nowhere : ((j : ℕ) → j < min k (length t) → getD t j 0 ≡ key → ⊥) → None ≡ scanned t k key
   unfolding scanned
   scan-nowhere none =
       ap foundOf (sym (first-nowhere is (take k t) 0 (λ j h. missed (min k (length t)) (omega arith) none j (omega (arith, length-take k t)))))

@@ -11,13 +11,14 @@ use lib.Dec.{ltb, eqb}
 use lib.ListN.{length, getD, take, set, length-take, length-set}
 use lib.Seq.{getD-take, getD-set-same, getD-set-other}
 use Rattle.frame.specs.declared.header.StreamId.{StreamId}
+use Rattle.rules.specs.State.{foundOf}
 use Rattle.rules.specs.Lists.{Place, at, nowhere, first}
 use Rattle.rules.specs.declared.Slot.{Slot}
 use Rattle.table.specs.Rows.{blank, hasId, isFree}
-use Rattle.table.specs.Table.{size, rowAt, view, foundOf, scanned, lowestFree, Finds, Tied, nth, Distinct}
+use Rattle.table.specs.Table.{size, rowAt, view, scanned, lowestFree, Finds, Tied, nth, Distinct}
 use Rattle.table.specs.declared.row.Row.{Row}
-use Rattle.table.specs.declared.Found.{Found}
-use Rattle.table.specs.declared.Found.the-variants.{At, Nowhere}
+use Rattle.rules.specs.declared.Which.{Which}
+use Rattle.rules.specs.declared.Which.the-variants.{At, None}
 use Rattle.table.proofs.Laws.{length-view, nth-view, row-held, row-listed}
 use Rattle.rules.proofs.Lists.{both, first-at, first-nowhere, first-same}
 use Rattle.table.proofs.Lists.{false-of}
@@ -28,7 +29,7 @@ pub found-at : (p : Place) (s : Slot) → At s ≡ foundOf p → p ≡ at (s .0)
 found-at (at i) s e = cc
 found-at nowhere s e = let z : _≡_ {A = ℕ} 0 1 = cc in absurd (omega arith)
 
-pub found-nowhere : (p : Place) → Nowhere ≡ foundOf p → p ≡ nowhere
+pub found-nowhere : (p : Place) → None ≡ foundOf p → p ≡ nowhere
 found-nowhere (at i) e = let z : _≡_ {A = ℕ} 0 1 = cc in absurd (omega arith)
 found-nowhere nowhere e = refl
 
@@ -68,7 +69,7 @@ module _ (t : List ℕ) (k : ℕ) (id : StreamId) (sized : length t ≡ size k) 
       omega (arith, tied i h l, eqb-true (rowAt t k i .stream .id .0) (id .0) (b .1))
 
   -- with distinct ids, whatever the hints: the listed slot with that id
-  pub found : Distinct (view t k) → (f : Found) → Finds t k id f → f ≡ foundOf (first (hasId id) (view t k))
+  pub found : Distinct (view t k) → (f : Which) → Finds t k id f → f ≡ foundOf (first (hasId id) (view t k))
   unfolding Distinct
   found distinct (At s) fs =
       ap foundOf (sym (first-at (hasId id) (view t k) (s .0) blank (omega (arith, length-view t k)) none (has-key (s .0) (fs .0) (fs .1))))
@@ -84,7 +85,7 @@ module _ (t : List ℕ) (k : ℕ) (id : StreamId) (sized : length t ≡ size k) 
               = eqb-true (nth (view t k) j .stream .id .0) (id .0) (a .1) ∙ sym (eqb-true (nth (view t k) (s .0) .stream .id .0) (id .0) (b .1)) in
               let q : j ≡ s .0 = distinct j (s .0) (omega (arith, length-view t k)) (omega (arith, length-view t k)) (a .0) (b .0) i in
               omega arith
-  found distinct Nowhere fs =
+  found distinct None fs =
       ap foundOf (sym (first-nowhere (hasId id) (view t k) blank (λ j h. none j (omega (arith, length-view t k)))))
     where
       none : (j : ℕ) → j < k → hasId id (nth (view t k) j) ≡ false

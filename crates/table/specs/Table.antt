@@ -8,12 +8,12 @@ use lib.ListN.{length, getD, take, drop, set, replicate}
 use Rattle.frame.specs.declared.header.StreamId.{StreamId}
 use Rattle.chunks.specs.Blocks.{put}
 use Rattle.rules.specs.Lists.{Place, at, nowhere, first, sum}
-use Rattle.rules.specs.State.{one}
+use Rattle.rules.specs.State.{one, foundOf}
 use Rattle.rules.specs.declared.Mode.{Mode}
 use Rattle.table.specs.Rows.{low, rowOf, keyOf, cellsOf, blank, isUnacknowledged, endRow}
 use Rattle.table.specs.declared.row.Row.{Row}
-use Rattle.table.specs.declared.Found.{Found}
-use Rattle.table.specs.declared.Found.the-variants.{At, Nowhere}
+use Rattle.rules.specs.declared.Which.{Which}
+use Rattle.rules.specs.declared.Which.the-variants.{At, None}
 
 -- the cells of K slots
 abbrev pub size : ℕ → ℕ
@@ -63,22 +63,18 @@ ended t k (suc n) = stored (ended t k n) k n (endRow (rowAt (ended t k n) k n))
 
 -- ---- searches and counts
 
-abbrev pub foundOf : Place → Found
-foundOf (at i) = At (record { 0 = i })
-foundOf nowhere = Nowhere
-
 -- the first of the K keys that is this one
-unfoldable pub scanned : List ℕ → ℕ → ℕ → Found
+unfoldable pub scanned : List ℕ → ℕ → ℕ → Which
 scanned t k key = foundOf (first (λ c. eqb c key) (take k t))
 
 -- 01: "the lowest free one is taken"
-abbrev pub lowestFree : List ℕ → ℕ → Found
+abbrev pub lowestFree : List ℕ → ℕ → Which
 lowestFree t k = scanned t k 0
 
 -- A slot whose key is the id's; or no key is. With ids of listed rows distinct this is one answer (proofs/Searches, `found`).
-abbrev pub Finds : List ℕ → ℕ → StreamId → Found → Type 0
+abbrev pub Finds : List ℕ → ℕ → StreamId → Which → Type 0
 Finds t k id (At s) = (s .0 < k) × (getD t (s .0) 0 ≡ id .0 + 2)
-Finds t k id Nowhere = (i : ℕ) → i < k → getD t i 0 ≡ id .0 + 2 → ⊥
+Finds t k id None = (i : ℕ) → i < k → getD t i 0 ≡ id .0 + 2 → ⊥
 
 -- 01: "own-parity streams Open and unacknowledged"
 unfoldable pub unacknowledged : List ℕ → ℕ → Mode → ℕ

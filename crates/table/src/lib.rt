@@ -11,17 +11,19 @@ use frame::header::StreamId;
 use row::Row;
 use rules::Mode;
 use rules::Slot;
+use rules::Which;
 
-pub enum Found {
-    At(Slot),
-    Nowhere,
-}
+// The cells of a row.
+const ROW: usize = 6;
+
+// The cells before the rows, for each slot: a key and two hints.
+const FRONT: usize = 3;
 
 // The number of cells that k slots take.
 pub fn size(k: u32) -> usize
     ensures { λ r. ⌜ r ≡ size k ⌝ }
 {
-    9 * (k as usize)
+    (FRONT + ROW) * (k as usize)
 }
 
 // Frees every slot.
@@ -39,7 +41,7 @@ pub fn init(table: &mut [u64])
 fn place(k: u32, slot: Slot) -> usize
     ensures { λ r. ⌜ r ≡ place k (slot .0) ⌝ }
 {
-    3 * (k as usize) + 6 * (slot.0 as usize)
+    FRONT * (k as usize) + ROW * (slot.0 as usize)
 }
 
 // The slot's row.
@@ -48,7 +50,7 @@ pub fn load(table: &[u64], k: u32, slot: Slot) -> Row
 {
     let i = slot.0 as usize;
     let a = place(k, slot);
-    let e = a + 6;
+    let e = a + ROW;
     if e <= table.len() {
         row::unpack(table[i], &table[a..e])
     } else {
@@ -62,7 +64,7 @@ pub fn store(table: &mut [u64], k: u32, slot: Slot, row: Row)
 {
     let i = slot.0 as usize;
     let a = place(k, slot);
-    let e = a + 6;
+    let e = a + ROW;
     if e <= table.len() {
         table[i] = row.key();
         row.pack(&mut table[a..e]);
@@ -121,29 +123,29 @@ fn least(a: usize, b: usize) -> usize
 }
 
 // The first slot with this key.
-fn scan(table: &[u64], k: u32, key: u64) -> Found
+fn scan(table: &[u64], k: u32, key: u64) -> Which
     ensures { λ r. ⌜ r ≡ scanned (now (table .entry)) k key ⌝ }
 {
     let n = least(k as usize, table.len());
     let mut i: usize = 0;
     while i < n {
         if table[i] == key {
-            return Found::At(Slot(i as u32));
+            return Which::At(Slot(i as u32));
         }
         i += 1;
     }
-    Found::Nowhere
+    Which::None
 }
 
 // The lowest slot that is not in use.
-pub fn lowest_free(table: &[u64], k: u32) -> Found
+pub fn lowest_free(table: &[u64], k: u32) -> Which
     ensures { λ r. ⌜ r ≡ lowestFree (now (table .entry)) k ⌝ }
 {
     scan(table, k, 0)
 }
 
 // The slot of the stream with this id, if it is in the table.
-pub fn find(table: &[u64], k: u32, id: StreamId) -> Found
+pub fn find(table: &[u64], k: u32, id: StreamId) -> Which
     ensures { λ r. ⌜ Finds (now (table .entry)) k id r ⌝ }
 {
     let key = (id.0 as u64) + 2;
@@ -152,7 +154,7 @@ pub fn find(table: &[u64], k: u32, id: StreamId) -> Found
     if slot < k {
         if i < table.len() {
             if table[i] == key {
-                return Found::At(Slot(slot));
+                return Which::At(Slot(slot));
             }
         }
     }
@@ -187,7 +189,7 @@ fn weight(row: Row, mode: Mode) -> u32
 }
 
 // How many of our own streams in the table are Open and unacknowledged.
-pub fn unacknowledged(table: &[u64], k: u32, mode: Mode) -> u32
+pub fn ack_backlog(table: &[u64], k: u32, mode: Mode) -> u32
     ensures { λ r. ⌜ r ≡ unacknowledged (now (table .entry)) k mode ⌝ }
 {
     let mut count: u32 = 0;

@@ -163,28 +163,18 @@ pub(crate) fn unpack(key: u64, cells: &[u64]) -> Row
 fn end_stream(s: Stream, listed: bool) -> Stream
     ensures { λ r. ⌜ r ≡ endStream listed s ⌝ }
 {
-    let id = s.id;
-    let flag = s.flag;
-    let state = s.state;
-    let flow = s.flow;
-    if listed {
-        return Stream {
-            id,
-            flag,
-            state: State::Closed,
-            reader: false,
-            writer: false,
-            flow,
-        };
-    }
-    Stream {
-        id,
-        flag,
-        state,
+    let silent = Stream {
         reader: false,
         writer: false,
-        flow,
+        ..s
+    };
+    if listed {
+        return Stream {
+            state: State::Closed,
+            ..silent
+        };
     }
+    silent
 }
 
 impl Row {
@@ -247,14 +237,11 @@ impl Row {
     pub fn end(self) -> Self
         ensures { λ r. ⌜ r ≡ endRow self ⌝ }
     {
-        let s = self.stream;
-        let queue = self.queue;
-        let stream = end_stream(s, self.listed);
+        let stream = end_stream(self.stream, self.listed);
         Row {
-            held: self.held,
             listed: false,
             stream,
-            queue,
+            ..self
         }
     }
 }

@@ -4,9 +4,9 @@ ghost use lib.ListN.{length};
 ghost use Rattle.trace.specs.Applies.{slotOf, Lies, Carried, Applies};
 use connection::Connection;
 use connection::Done;
-use trace_events::Event;
 use rules::Reply;
 use rules::Slot;
+use trace_events::Event;
 
 const TOP: u64 = 4294967295;
 

@@ -7,11 +7,11 @@ ghost use Rattle.rules.specs.Settings.{checked};
 ghost use Rattle.trace_events.specs.Format.{settingsAt};
 ghost use Rattle.trace.specs.Output.{sizesOf, judgedAs, begunAs, Finishes, kept};
 use crate::Stop;
-use trace_events::Typed;
-use trace_lines::Put;
 use rules::Checked;
 use rules::Config;
 use rules::Settings;
+use trace_events::Typed;
+use trace_lines::Put;
 
 // The cells and bytes that settings ask for.
 pub struct Sizes {

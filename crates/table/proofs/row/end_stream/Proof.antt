@@ -3,7 +3,7 @@ use Rattle.table.proofs.row.end_stream.Statement.{statement}
 use Rattle.table.proofs.row.end_stream.Tie as tie
 
 returns : tie.Need-returns
-returns c = rw (c .if1 .taken)
+returns c = rw (c .before .before .if1 .taken)
 
 returns-2 : tie.Need-returns-2
 returns-2 c = rw (c .if1 .left)

@@ -7,7 +7,7 @@ end-stream-requires : tie.Need-end-stream-requires
 end-stream-requires c κs = search needs
 
 returns : tie.Need-returns
-returns c = rw (c .end-stream .ensures)
+returns c = rw (c .before .end-stream .ensures)
 
 pub end-spec : {M : Type 1} → statement M
 end-spec = tie.close (tie.spec end-stream-requires returns)

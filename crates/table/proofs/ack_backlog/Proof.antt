@@ -1,4 +1,4 @@
--- `table::unacknowledged` meets its contract. The count so far and what the rows from `i` on count make the whole. The measure is the number of rows left. Assumes nothing.
+-- `table::ack_backlog` meets its contract. The count so far and what the rows from `i` on count make the whole. The measure is the number of rows left. Assumes nothing.
 use mathlib.Core.Path.{_≡_}
 use Prim.Native.Nat.{_+_, _-_, _≤_}
 use native.Mathlib.Nat.{le-antisymm}
@@ -8,8 +8,8 @@ use Rattle.rules.specs.State.{one}
 use Rattle.table.specs.Table.{unacknowledged}
 use Rattle.table.specs.Rows.{isUnacknowledged}
 use Rattle.table.proofs.Scans.{rest, rest-all, rest-step, rest-none}
-use Rattle.table.proofs.unacknowledged.Statement.{statement}
-use Rattle.table.proofs.unacknowledged.Tie as tie
+use Rattle.table.proofs.ack_backlog.Statement.{statement}
+use Rattle.table.proofs.ack_backlog.Tie as tie
 
 abbrev Inv-loop : tie.InvT-loop
 Inv-loop table k mode count₀ i₀ count i = (i ≤ k) × (count ≤ i) × (count + rest table k mode i ≡ unacknowledged table k mode)
@@ -51,8 +51,8 @@ returns c =
     let e : v .i ≡ a .k = le-antisymm (v .inv .0) (c .loop-test .left) in
     omega (arith, rw e at (v .inv .2), rest-none (a .table .now) (a .k) (a .mode))
 
-pub unacknowledged-spec : {M : Type 1} → statement M
-unacknowledged-spec =
+pub ack-backlog-spec : {M : Type 1} → statement M
+ack-backlog-spec =
     tie.close
     (tie.spec
     Inv-loop
