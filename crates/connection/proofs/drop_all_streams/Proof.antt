@@ -14,7 +14,10 @@ same-length : tie.Need-same-length
 same-length c = search needs
 
 returns : tie.Need-returns
-returns c = ?
+returns c =
+    let a = c .before .before .before .before .before .before .before .before .args in
+    let e = c .before .before .before .before .before .end-all in
+    rw (c .before .before .bare .ensures) (end-handles (a .c) (a .table .now) (e .result) (e .last .1 .0) (e .ensures) (a .reply))
 
 pub drop-all-streams-spec : {M : Type 1} → statement M
 drop-all-streams-spec = tie.close (tie.spec end-all-requires bare-requires same-length returns)

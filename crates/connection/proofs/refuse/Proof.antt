@@ -7,7 +7,7 @@ bare-requires : tie.Need-bare-requires
 bare-requires c κs = search needs
 
 returns : tie.Need-returns
-returns c = ?
+returns c = rw (c .bare .ensures)
 
 pub refuse-spec : {M : Type 1} → statement M
 refuse-spec = tie.close (tie.spec bare-requires returns)
