@@ -15,13 +15,15 @@ use Rattle.rules.specs.State.{Entry, Conn, entry, vacant, isOwn, hasId, find, f
 use Rattle.rules.specs.State as rules
 use Rattle.rules.specs.Frames.{newEntry}
 use Rattle.rules.specs.Calls.{open-rules}
-use Rattle.rules.specs.Step.{step}
+use Rattle.rules.specs.Step.{step, open-stream}
 use Rattle.rules.specs.declared.Mode.{Mode}
 use Rattle.rules.specs.declared.Mode.the-variants.{Client, Server}
 use Rattle.rules.specs.declared.Reply.{Reply}
 use Rattle.rules.specs.declared.Reply.the-variants as reply
 use Rattle.rules.specs.declared.Slot.{Slot}
-use Rattle.table.specs.Table.{unacknowledged}
+use Rattle.rules.specs.declared.Which.{Which}
+use Rattle.rules.specs.declared.Which.the-variants as which
+use Rattle.table.specs.Table.{lowestFree, unacknowledged}
 use Rattle.rules.proofs.Lists.{first-nowhere}
 use Rattle.table.proofs.Lists.{false-of}
 use Rattle.handlers.specs.Locals.{openWith, openAction, performOpen}
@@ -31,17 +33,18 @@ use Rattle.handlers.proofs.Locals.{open-performs}
 use Rattle.memory.specs.Moves.{Makes}
 use Rattle.memory.specs.Slots.{slotsOf}
 use Rattle.memory.specs.declared.Memory.{Memory}
-use Rattle.memory.proofs.Laws.{never, free-at, listed-count, backlog}
+use Rattle.memory.proofs.Laws.{free-at, free-slots, listed-count, backlog}
 use Rattle.connection.specs.Abstract.{absOf, Valid, Fresh}
-use Rattle.connection.specs.Parts.{settled}
-use Rattle.connection.specs.Promises.{bareAnswer, refused, gateOf, Follows, Over, vacancyIn}
+use Rattle.connection.specs.Parts.{rebuilt, answered, gateOf}
+use Rattle.connection.specs.Promises.{bareAnswer, refused, Over, Promised}
 use Rattle.connection.specs.declared.Connection.{Connection}
 use Rattle.connection.specs.declared.Done.{Done}
 use Rattle.connection.specs.declared.Gate.the-variants as gate
-use Rattle.connection.proofs.Promises.{refuse-follows, answer-follows}
-use Rattle.connection.proofs.Tests.{gate-shut, gate-open, vacancy-rules}
+use Rattle.connection.proofs.Promises.{refused-handles, acted, promised}
+use Rattle.connection.proofs.Moving.{becomes-follows, answer-follows}
+use Rattle.connection.proofs.Tests.{gate-shut, gate-open}
 use Rattle.connection.proofs.Ids.{Below, below-set}
-use Rattle.connection_open.specs.Open.{decided, opened, Opens, Fits, Sound, Acts, Enters}
+use Rattle.connection_open.specs.Open.{decided, opened, Opens, Fits, Sound, Acts}
 
 -- ---- the next id
 
@@ -73,26 +76,18 @@ next-new c f = first-nowhere (hasId (record { 0 = c .nextId })) (c .slots) vacan
 module _ (c : Connection) (t l p : List ℕ) where
   pub refusing : (r : Reply) → Acts c t l p (opening.Refuse r) (refused c r) t l p
   unfolding performOpen
-  refusing r = record { steps = λ v f. refuse-follows c t l p r v; refuses = λ s e. (refl, refl, refl, refl) }
+  refusing r s f = refused-handles c t l p r
 
   pub ending : (r : Reply) (d : Done) (t′ : List ℕ) → Over c t r d t′ → Acts c t l p (opening.End r) d t′ l p
   unfolding performOpen
-  ending r d t′ o = record {
-    steps = λ v f. o .ends l p v;
-    refuses = λ s e. never (sym e ∙ rw (o .answer) s);
-  }
+  ending r d t′ o s f = o l p s
 
-  pub waiting : Acts c t l p opening.Wait (settled c (c .«next_id») true (c .memory) (bareAnswer reply.Wait false)) t l p
+  pub waiting : Acts c t l p opening.Wait
+      (answered (rebuilt c (c .rtt) (c .ended) (c .«next_id») true (c .growth) (c .memory)) (bareAnswer reply.Wait false)) t l p
   unfolding performOpen
-  waiting = record {
-    steps = λ v f. answer-follows c t l p (c .rtt) true (bareAnswer reply.Wait false) v;
-    refuses = λ s e. never (sym e);
-  }
+  waiting s f = acted c t l p (λ x. performOpen x opening.Wait) _ t l p refl (answer-follows c t l p (c .rtt) true (bareAnswer reply.Wait false))
 
   module _ (i : Slot) (s : Stream) (after : ℕ) (m′ : Memory) (t′ l′ p′ : List ℕ) where
-    abbrev d : Done
-    d = settled c after (c .«open_wait») m′ (opened i (s .id .0))
-
     abbrev es : List Entry
     es = slotsOf (c .memory) t l p
 
@@ -105,28 +100,16 @@ module _ (c : Connection) (t l p : List ℕ) where
         let number : s .id .0 ≡ c .«next_id» = ap (λ (x : StreamId). x .0) (f .id) in
         below-set (c .config .mode) after es (i .0) e (λ h o. omega (arith, number, f .next)) (λ j h o. omega (arith, v .fresh .below j h o, f .next))
 
-    pub making : Makes (c .memory) t l p (i .0) s [] m′ t′ l′ p′ → Acts c t l p (opening.New i s after) d t′ l′ p′
+    pub making : Makes (c .memory) t l p (i .0) s [] m′ t′ l′ p′
+        → Acts c t l p (opening.New i s after) (answered (rebuilt c (c .rtt) (c .ended) after (c .«open_wait») (c .growth) m′) (opened i (s .id .0))) t′ l′ p′
     unfolding performOpen
-    making make = record { steps = λ v f. follows v f; refuses = λ o q. never (sym q) }
-      where
-        follows : (v : Valid c t l p) (f : Opens c t l p (i .0) s after) → Follows c t l p (performOpen (absOf c t l p) (opening.New i s after)) d t′ l′ p′
-        follows v f =
-            let w = make (v .memory) (f .below) (f .free) (rw (f .id) (next-new (absOf c t l p) (v .fresh))) (omega (arith, v .memory .within)) in
-            record {
-              valid = record {
-                memory = w .valid;
-                slots = w .same .0 ∙ v .slots;
-                pool = w .same .1 ∙ v .pool;
-                fresh = record {
-                  parity = rw (f .next) (own-next (c .config .mode) (c .«next_id») (v .fresh .parity));
-                  below = rw (w .slots) (below v f);
-                };
-              };
-              after = rw (w .slots);
-              advances = w .advances;
-              says = record { reply = refl; slot = refl; value = refl; sent = refl; wakes = refl };
-              read = refl;
-            }
+    making make o fits = acted c t l p (λ x. performOpen x (opening.New i s after)) _ t′ l′ p′ refl (λ v.
+        let f = fits v in
+        becomes-follows c t l p m′ (set es (i .0) e) t′ l′ p′
+        (make (v .memory) (f .below) (f .free) (rw (f .id) (next-new (absOf c t l p) (v .fresh))) (omega (arith, v .memory .within)))
+        (c .rtt) (c .ended) after (c .«open_wait») (c .growth)
+        (rw (f .next) (own-next (c .config .mode) (c .«next_id») (v .fresh .parity))) (below v f) (opened i (s .id .0)) _ 0
+        (record { reply = refl; slot = refl; value = refl; sent = refl; wakes = refl }) refl)
 
 -- ---- what is decided
 
@@ -138,19 +121,19 @@ module _ (c : Connection) (t l p : List ℕ) (now : ℕ) where
       → decided c t now ≡ openAction (rules.listedCount (a .slots)) (c .config .«max_num_streams») (rules.unacknowledged (c .config .mode) (a .slots)) (c .«next_id») (foundOf (rules.lowestFree (a .slots))) now
   decided-rules v =
       let m = c .memory in
-      rw (sym (listed-count m t l p (v .memory)), backlog m t l p (v .memory) (c .config .mode), vacancy-rules c t l p v)
+      rw (sym (listed-count m t l p (v .memory)), backlog m t l p (v .memory) (c .config .mode), free-slots m t l p (v .memory))
 
   pub sound : Sound (decided c t now)
   unfolding openAction
-  sound = go (leb (c .config .«max_num_streams») (c .memory .listed)) (leb 256 (unacknowledged t (c .memory .slots) (c .config .mode))) (ltb top (c .«next_id» + 2)) (vacancyIn t (c .memory .slots))
+  sound = go (leb (c .config .«max_num_streams») (c .memory .listed)) (leb 256 (unacknowledged t (c .memory .slots) (c .config .mode))) (ltb top (c .«next_id» + 2)) (lowestFree t (c .memory .slots))
     where
-      go : (x y z : Bool) (q : Rattle.handlers.specs.declared.Vacancy.Vacancy)
+      go : (x y z : Bool) (q : Which)
           → Sound (cond x (opening.End reply.TooManyStreams) (cond y opening.Wait (openWith (cond z next.NoMore (next.Id (record { 0 = c .«next_id» }) (c .«next_id» + 2))) q now)))
       go true y z q = refl
       go false true z q = tt
       go false false true q = refl
-      go false false false Rattle.rules.specs.declared.Which.the-variants.None = tt
-      go false false false (Rattle.rules.specs.declared.Which.the-variants.At i) = tt
+      go false false false which.None = tt
+      go false false false (which.At i) = tt
 
   fits-rules : (v : Valid c t l p) (q : Place) → rules.lowestFree (a .slots) ≡ q → (x y z : Bool)
       → Fits c t l p (cond x (opening.End reply.TooManyStreams) (cond y opening.Wait (openWith (cond z next.NoMore (next.Id (record { 0 = c .«next_id» }) (c .«next_id» + 2))) (foundOf q) now)))
@@ -168,16 +151,15 @@ module _ (c : Connection) (t l p : List ℕ) (now : ℕ) where
 
   -- ---- the gate
 
-  pub shut : (r : Reply) → gateOf (c .ended) now ≡ gate.Shut r → Enters c t l p now (refused c r) t l p
+  pub shut : (sized : Bool) (r : Reply) → gateOf sized (c .ended) now ≡ gate.Shut r → Promised sized c t l p (open-stream now) (refused c r) t l p
   unfolding step
-  shut r e = record {
-    steps = λ v. rw (gate-shut a (c .ended) now (open-rules a now) r e) (refuse-follows c t l p r v);
-    refuses = λ q. (refl, refl, refl, refl);
-  }
+  shut sized r e = gate-shut c t l p sized (open-stream now) now (open-rules a now) (c .ended) r e (λ v. refl)
 
-  pub entered : gateOf (c .ended) now ≡ gate.Open → (d : Done) (t′ l′ p′ : List ℕ) → Acts c t l p (decided c t now) d t′ l′ p′ → Enters c t l p now d t′ l′ p′
+  pub entered : (sized : Bool) → gateOf sized (c .ended) now ≡ gate.Open → (d : Done) (t′ l′ p′ : List ℕ)
+      → Acts c t l p (decided c t now) d t′ l′ p′ → Promised sized c t l p (open-stream now) d t′ l′ p′
   unfolding step
-  entered e d t′ l′ p′ acts = record {
-    steps = λ v. rw (gate-open a (c .ended) now (open-rules a now) e, open-performs a now, sym (decided-rules v)) (acts .steps v (fitting v));
-    refuses = λ q. acts .refuses sound q;
-  }
+  entered sized e d t′ l′ p′ acts =
+      let o = gate-open sized (c .ended) now e in
+      promised c t l p sized (open-stream now) (o .0) (λ x. performOpen x (decided c t now)) d t′ l′ p′
+      (λ v. o .1 a (open-rules a now) ∙ open-performs a now ∙ ap (performOpen a) (sym (decided-rules v)))
+      (acts sound fitting)

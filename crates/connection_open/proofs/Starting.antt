@@ -86,8 +86,8 @@ module _ (k : Config) (m : Memory) (t l p : List ℕ) (ranged : Ranged k) (s : S
 
   pub begins : Begins k (Made (started k m)) t l p
   begins = (
-    record { memory = s .valid p laid; slots = s .slots; pool = s .pool; fresh = fresh },
-    rw (s .vacant p laid),
+    record { memory = s .valid p laid; fresh = fresh },
+    rw (s .vacant p laid, s .slots, s .pool),
   )
 
 module _ (k : Config) (t l p : List ℕ) where

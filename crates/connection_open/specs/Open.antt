@@ -1,25 +1,24 @@
 -- What opening a stream promises. Sentences are document 01's.
 use mathlib.Core.Path.{_≡_}
-use mathlib.Core.Bool.{true, false}
+use mathlib.Core.Bool.{false}
 use mathlib.Core.List.{List}
 use Prim.Native.Nat.{ℕ, _+_, _<_}
 use Rattle.stream.specs.declared.Stream.{Stream}
 use Rattle.stream.specs.declared.Sent.the-variants.{Nothing}
 use Rattle.rules.specs.Replies.{noWakes, leavesAll}
 use Rattle.rules.specs.State.{entry}
-use Rattle.rules.specs.Step.{step, open-stream}
 use Rattle.rules.specs.declared.Reply.the-variants as reply
 use Rattle.rules.specs.declared.Slot.{Slot}
 use Rattle.rules.specs.declared.Which.the-variants as which
 use Rattle.rules.specs.declared.Value.the-variants as value
-use Rattle.table.specs.Table.{unacknowledged}
+use Rattle.table.specs.Table.{lowestFree, unacknowledged}
 use Rattle.handlers.specs.Locals.{openAction, performOpen}
 use Rattle.handlers.specs.declared.Answer.{Answer}
 use Rattle.handlers.specs.declared.Opening.{Opening}
 use Rattle.handlers.specs.declared.Opening.the-variants as opening
 use Rattle.memory.specs.Slots.{slotsOf}
-use Rattle.connection.specs.Abstract.{absOf, Valid}
-use Rattle.connection.specs.Promises.{vacancyIn, Follows}
+use Rattle.connection.specs.Abstract.{Valid}
+use Rattle.connection.specs.Promises.{Handles}
 use Rattle.connection.specs.declared.Connection.{Connection}
 use Rattle.connection.specs.declared.Done.{Done}
 
@@ -27,7 +26,7 @@ use Rattle.connection.specs.declared.Done.{Done}
 abbrev pub decided : Connection → List ℕ → ℕ → Opening
 decided c t now =
     openAction (c .memory .listed) (c .config .«max_num_streams») (unacknowledged t (c .memory .slots) (c .config .mode)) (c .«next_id»)
-    (vacancyIn t (c .memory .slots)) now
+    (lowestFree t (c .memory .slots)) now
 
 -- the answer that gives a new stream's slot and id
 abbrev pub opened : Slot → ℕ → Answer
@@ -54,12 +53,6 @@ Sound opening.Wait = Unit {0}
 Sound (opening.Refuse r) = Unit {0}
 Sound (opening.New i s after) = Unit {0}
 
--- from a valid state what the opening says is performed; a refusal leaves all as it was
-pub record Acts (c : Connection) (t l p : List ℕ) (o : Opening) (d : Done) (t′ l′ p′ : List ℕ) : Type 0 where
-  pub steps : Valid c t l p → Fits c t l p o → Follows c t l p (performOpen (absOf c t l p) o) d t′ l′ p′
-  pub refuses : Sound o → leavesAll (d .answer .reply) ≡ true → (d .connection ≡ c) × (t′ ≡ t) × (l′ ≡ l) × (p′ ≡ p)
-
--- the same of the call, once the sizes are right
-pub record Enters (c : Connection) (t l p : List ℕ) (now : ℕ) (d : Done) (t′ l′ p′ : List ℕ) : Type 0 where
-  pub steps : Valid c t l p → Follows c t l p (step (absOf c t l p) (open-stream now)) d t′ l′ p′
-  pub refuses : leavesAll (d .answer .reply) ≡ true → (d .connection ≡ c) × (t′ ≡ t) × (l′ ≡ l) × (p′ ≡ p)
+-- what the opening says is performed, where a valid state lets it
+abbrev pub Acts : Connection → List ℕ → List ℕ → List ℕ → Opening → Done → List ℕ → List ℕ → List ℕ → Type 0
+Acts c t l p o d t′ l′ p′ = Sound o → (Valid c t l p → Fits c t l p o) → Handles (λ x. performOpen x o) c t l p d t′ l′ p′

@@ -31,7 +31,16 @@ sized k t l p = fits (k .slots) (k .pool) t l p
 -- the connection before its first call
 abbrev pub started : Config → Memory → Connection
 started k m = record {
-  config = k;
+  config = record {
+    mode = k .mode;
+    «max_num_streams» = k .«max_num_streams»;
+    limit = k .limit;
+    «read_after_close» = k .«read_after_close»;
+    split = k .split;
+    interval = k .interval;
+    «first_time» = k .«first_time»;
+    «first_id» = k .«first_id»;
+  };
   rtt = start (k .«first_time») (k .«first_id»);
   ended = false;
   «next_id» = firstOwn (k .mode);

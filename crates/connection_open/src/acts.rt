@@ -20,8 +20,8 @@ pub(crate) fn decide(c: Connection, table: &[u64], time: u64) -> Opening
     let config = c.config;
     let memory = c.memory;
     let mode = config.mode;
-    let backlog = table::unacknowledged(table, memory.slots, mode);
-    let vacancy = connection::vacancy(table, memory.slots);
+    let backlog = table::ack_backlog(table, memory.slots, mode);
+    let vacancy = table::lowest_free(table, memory.slots);
     handlers::open::open_action(
         memory.listed,
         config.max_num_streams,
@@ -60,18 +60,32 @@ pub(crate) fn act(
 ) -> Done
     ensures { λ r. ⌜ Acts c (now (table .entry)) (now (links .entry)) (now (pool .entry)) opening r (now (table .exit)) (now (links .exit)) (now (pool .exit)) ⌝ }
 {
-    let memory = c.memory;
     match opening {
-        Opening::End(reply) => connection::end(c, table, reply),
+        Opening::End(reply) => connection::drop_all_streams(c, table, reply),
         Opening::Wait => {
             let answer = connection::bare(Reply::Wait, false);
-            connection::settled(c, c.next_id, true, memory, answer)
+            Done {
+                connection: Connection {
+                    open_wait: true,
+                    ..c
+                },
+                answer,
+                read: 0,
+            }
         }
         Opening::Refuse(reply) => connection::refuse(c, reply),
         Opening::New(slot, stream, next_id) => {
-            let after = memory.make(table, links, pool, slot, stream, b"");
+            let memory = c.memory.make(table, links, pool, slot, stream, b"");
             let answer = opened(slot, stream.id);
-            connection::settled(c, next_id, c.open_wait, after, answer)
+            Done {
+                connection: Connection {
+                    next_id,
+                    memory,
+                    ..c
+                },
+                answer,
+                read: 0,
+            }
         }
     }
 }

@@ -7,17 +7,16 @@ ghost use Rattle.rules.specs.State.{firstOwn};
 ghost use Rattle.rules.specs.Step.{open-stream};
 ghost use Rattle.memory.specs.Counts.{fits};
 ghost use Rattle.connection.specs.Promises.{Promised};
-ghost use Rattle.connection_open.specs.Open.{Enters};
 ghost use Rattle.connection_open.specs.Start.{started, number, Lays, Creates};
 use connection::Connection;
 use connection::Done;
 use connection::Gate;
+use connection::Terms;
 use memory::Memory;
 use rtt::Rtt;
 use rules::Checked;
 use rules::Config;
 use rules::Mode;
-use rules::Reply;
 use rules::Setting;
 use rules::Settings;
 
@@ -59,7 +58,16 @@ fn started(config: Config, memory: Memory) -> Connection
     let mode = config.mode;
     let next_id = first_own(mode);
     Connection {
-        config,
+        config: Terms {
+            mode,
+            max_num_streams: config.max_num_streams,
+            limit: config.limit,
+            read_after_close: config.read_after_close,
+            split: config.split,
+            interval: config.interval,
+            first_time: config.first_time,
+            first_id: config.first_id,
+        },
         rtt,
         ended: false,
         next_id,
@@ -99,20 +107,6 @@ pub fn new(settings: Settings, table: &mut [u64], links: &mut [u32], pool: &mut 
     }
 }
 
-// Opens a stream, where the time is in range and the connection has not ended.
-fn enter(c: Connection, table: &mut [u64], links: &mut [u32], pool: &mut [u8], time: u64) -> Done
-    ensures { λ r. ⌜ Enters c (now (table .entry)) (now (links .entry)) (now (pool .entry)) time r (now (table .exit)) (now (links .exit)) (now (pool .exit)) ⌝ }
-{
-    let gate = connection::judge(c.ended, time);
-    match gate {
-        Gate::Shut(reply) => connection::refuse(c, reply),
-        Gate::Open => {
-            let opening = acts::decide(c, &table[..], time);
-            acts::act(c, table, links, pool, opening)
-        }
-    }
-}
-
 // Opens a stream of our own.
 pub fn open(c: Connection, table: &mut [u64], links: &mut [u32], pool: &mut [u8], time: u64) -> Done
     ensures { λ r. ⌜ Promised (fits (c .memory .slots) (c .memory .pool) (length (now (table .entry))) (length (now (links .entry))) (length (now (pool .entry)))) c (now (table .entry)) (now (links .entry)) (now (pool .entry)) (open-stream time) r (now (table .exit)) (now (links .exit)) (now (pool .exit)) ⌝ }
@@ -125,8 +119,12 @@ pub fn open(c: Connection, table: &mut [u64], links: &mut [u32], pool: &mut [u8]
         links.len(),
         pool.len(),
     );
-    if !right {
-        return connection::refuse(c, Reply::Size);
+    let gate = connection::judge(right, c.ended, time);
+    match gate {
+        Gate::Shut(reply) => connection::refuse(c, reply),
+        Gate::Open => {
+            let opening = acts::decide(c, &table[..], time);
+            acts::act(c, table, links, pool, opening)
+        }
     }
-    enter(c, table, links, pool, time)
 }

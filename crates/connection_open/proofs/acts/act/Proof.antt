@@ -7,17 +7,14 @@ use Rattle.connection_open.proofs.acts.act.Tie as tie
 enum-known-opening : tie.Need-enum-known-opening
 enum-known-opening c = search needs
 
-end-requires : tie.Need-end-requires
-end-requires c κs = search needs
+drop-all-streams-requires : tie.Need-drop-all-streams-requires
+drop-all-streams-requires c κs = search needs
 
 enum-told : tie.Need-enum-told
 enum-told c = search needs
 
 bare-requires : tie.Need-bare-requires
 bare-requires c κs = search needs
-
-settled-requires : tie.Need-settled-requires
-settled-requires c κs = search needs
 
 enum-known-opening-2 : tie.Need-enum-known-opening-2
 enum-known-opening-2 c = search needs
@@ -37,26 +34,23 @@ make-requires c κs = search needs
 opened-requires : tie.Need-opened-requires
 opened-requires c κs = search needs
 
-settled-requires-2 : tie.Need-settled-requires-2
-settled-requires-2 c κs = search needs
-
 same-length : tie.Need-same-length
 same-length c = search needs
 
 returns : tie.Need-returns
 returns c =
-    let a = c .before .before .before .before .before .before .before .before .before .before .before .args in
-    let e = c .before .before .end in
+    let a = c .before .before .before .before .before .before .before .before .before .before .args in
+    let e = c .before .before .drop-all-streams in
     rw (c .before .before .before .before .before .opening .given .1) (ending (a .c) (a .table .now) (a .links .now) (a .pool .now) _ (e .result) (e .last .1 .0) (e .ensures))
 
 returns-2 : tie.Need-returns-2
 returns-2 c =
-    let a = c .before .before .before .before .before .before .before .before .args in
-    rw (c .before .before .enum-told .given .1, c .settled .ensures, c .before .bare .ensures) (waiting (a .c) (a .table .now) (a .links .now) (a .pool .now))
+    let a = c .before .before .before .before .before .before .before .before .before .args in
+    rw (c .before .before .before .before .enum-told .given .1, c .before .before .before .bare .ensures) (waiting (a .c) (a .table .now) (a .links .now) (a .pool .now))
 
 returns-3 : tie.Need-returns-3
 returns-3 c =
-    let a = c .before .before .before .before .before .before .before .before .args in
+    let a = c .before .before .before .before .before .before .before .args in
     rw (c .before .before .opening2 .given .1, c .refuse .ensures) (refusing (a .c) (a .table .now) (a .links .now) (a .pool .now) _)
 
 same-length-2 : tie.Need-same-length-2
@@ -71,8 +65,8 @@ same-length-4 c = search needs
 returns-4 : tie.Need-returns-4
 returns-4 c =
     let a = c .before .before .before .before .before .before .before .before .before .before .before .before .before .before .before .before .before .before .before .before .args in
-    let m = c .before .before .before .before .before .before .before .before .make in
-    rw (c .before .before .before .before .before .before .before .before .before .before .before .before .before .before .opening3 .given .1, c .settled2 .ensures, c .before .opened .ensures)
+    let m = c .before .before .before .before .before .before .before .before .before .make in
+    rw (c .before .before .before .before .before .before .before .before .before .before .before .before .before .before .before .opening3 .given .1, c .before .before .opened .ensures)
     (making (a .c) (a .table .now) (a .links .now) (a .pool .now) _ _ _ (m .result) (m .last .1 .0) (m .last .1 .1 .0) (m .last .1 .1 .1 .0) (m .ensures))
 
 pub act-spec : {M : Type 1} → statement M
@@ -80,17 +74,15 @@ act-spec =
     tie.close
     (tie.spec
     enum-known-opening
-    end-requires
+    drop-all-streams-requires
     enum-told
     bare-requires
-    settled-requires
     enum-known-opening-2
     refuse-requires
     enum-known-opening-3
     slice-aggregate-make
     make-requires
     opened-requires
-    settled-requires-2
     same-length
     returns
     returns-2
