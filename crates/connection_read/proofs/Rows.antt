@@ -29,7 +29,8 @@ use Rattle.memory.specs.Slots.{slotsOf}
 use Rattle.memory.proofs.Laws.{entry-held, entry-of-held, entry-unread}
 use Rattle.connection.specs.Abstract.{absOf, Valid}
 use Rattle.connection.specs.declared.Connection.{Connection}
-use Rattle.connection_read.specs.Promises.{stepOf, ruleOf, Draws, Holds}
+use Rattle.connection.specs.Parts.{Holds}
+use Rattle.connection_read.specs.Promises.{stepOf, ruleOf, Draws}
 
 -- the step counts n bytes, leaves the id, and its reply may give bytes
 pub record Steps (u : Updated) (n : ℕ) (s : ReadStep) : Type 0 where

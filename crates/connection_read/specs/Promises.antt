@@ -1,6 +1,6 @@
 -- What a read promises, on every input and from a valid state.
 use mathlib.Core.Path.{_≡_}
-use mathlib.Core.Bool.{Bool, true, false}
+use mathlib.Core.Bool.{Bool, true}
 use mathlib.Core.List.{List}
 use Prim.Native.Nat.{ℕ, _≤_, _<_}
 use lib.ListN.{length, drop}
@@ -9,7 +9,6 @@ use Rattle.rules.specs.State.{Conn, entry}
 use Rattle.rules.specs.Ending.{Result}
 use Rattle.rules.specs.Calls.{readRules}
 use Rattle.rules.specs.Step.{step, read}
-use Rattle.rules.specs.declared.Reply.the-variants as reply
 use Rattle.rules.specs.declared.Slot.{Slot}
 use Rattle.table.specs.Table.{rowAt}
 use Rattle.table.specs.declared.row.Row.{Row}
@@ -18,8 +17,9 @@ use Rattle.handlers.specs.declared.ReadStep.{ReadStep}
 use Rattle.memory.specs.Moves as memory
 use Rattle.memory.specs.Slots.{slotsOf}
 use Rattle.connection.specs.Abstract.{absOf, Valid}
-use Rattle.connection.specs.Promises.{refused, sentAfter, outAfter, Silent, Follows}
-use Rattle.rules.specs.Replies.{leavesAll, mayGive}
+use Rattle.connection.specs.Parts.{Holds}
+use Rattle.connection.specs.Promises.{sentAfter, outAfter, Silent, Handles}
+use Rattle.rules.specs.Replies.{mayGive}
 use Rattle.connection.specs.declared.Connection.{Connection}
 use Rattle.connection.specs.declared.Done.{Done}
 
@@ -33,13 +33,12 @@ pub record Outputs (sized : Bool) (c : Connection) (t l p : List ℕ) (time i : 
 
 -- ---- the parts
 
--- from a valid state the rule's result and bytes; a refusal leaves all as it was; and nothing past the bytes read changes
-pub record Reads (rule : Result) (c : Connection) (t l p out : List ℕ) (d : Done) (t′ l′ out′ : List ℕ) : Type 0 where
-  pub steps : Valid c t l p → Follows c t l p rule d t′ l′ p × (out′ ≡ outAfter (rule .outcome .bytes) out)
-  pub refuses : leavesAll (d .answer .reply) ≡ true → (d .connection ≡ c) × (t′ ≡ t) × (l′ ≡ l)
+-- a rule that is handled, with its bytes; and nothing past the bytes read changes
+pub record Reads (rule : Conn → Result) (c : Connection) (t l p out : List ℕ) (d : Done) (t′ l′ out′ : List ℕ) : Type 0 where
+  pub handles : Handles rule c t l p d t′ l′ p
+  pub bytes : Valid c t l p → out′ ≡ outAfter (rule (absOf c t l p) .outcome .bytes) out
   pub within : d .read ≤ length out
   pub past : drop (d .read) out′ ≡ drop (d .read) out
-  pub silent : Silent d
 
 -- "first the window update .., then the oldest min(asked, unread) bytes": the step, read off the slot's row
 abbrev pub stepOf : Connection → Slot → Row → ℕ → ℕ → ReadStep
@@ -58,29 +57,12 @@ pub record Draws (c : Connection) (t l p : List ℕ) (i : ℕ) (row : Row) (s : 
 abbrev pub Takes : Connection → List ℕ → List ℕ → List ℕ → ℕ → Row → ReadStep → List ℕ → Done → List ℕ → List ℕ → List ℕ → Type 0
 Takes c t l p i row s out d t′ l′ out′ =
     mayGive (s .answer .reply) ≡ true → (Valid c t l p → Draws c t l p i row s)
-    → Reads (performRead (absOf c t l p) (record { 0 = i }) (entry (slotsOf (c .memory) t l p) i) s) c t l p out d t′ l′ out′
+    → Reads (λ x. performRead x (record { 0 = i }) (entry (x .slots) i) s) c t l p out d t′ l′ out′
 
 -- the rule of a read from slot i
 abbrev pub ruleOf : Conn → ℕ → ℕ → ℕ → Result
 ruleOf x i asked time = readRules x i (entry (x .slots) i) asked time
 
--- slot i is held, and its row is `row`
-pub record Holds (c : Connection) (t : List ℕ) (i : ℕ) (row : Row) : Type 0 where
-  pub loaded : row ≡ rowAt t (c .memory .slots) i
-  pub below : i < c .memory .slots
-  pub held : row .held ≡ true
-
 abbrev pub ReadsRow : Connection → List ℕ → List ℕ → List ℕ → ℕ → Row → List ℕ → ℕ → Done → List ℕ → List ℕ → List ℕ → Type 0
 ReadsRow c t l p i row out time d t′ l′ out′ =
-    Holds c t i row → Reads (ruleOf (absOf c t l p) i (length out) time) c t l p out d t′ l′ out′
-
--- a wrong size is 14 before all else, and leaves all as it was
-pub record Unsized (c : Connection) (t l out : List ℕ) (d : Done) (t′ l′ out′ : List ℕ) : Type 0 where
-  pub size : d ≡ refused c reply.Size
-  pub table : t′ ≡ t
-  pub links : l′ ≡ l
-  pub kept : out′ ≡ out
-
-pub record ReadsCall (sized : Bool) (c : Connection) (t l p : List ℕ) (i : ℕ) (out : List ℕ) (time : ℕ) (d : Done) (t′ l′ out′ : List ℕ) : Type 0 where
-  pub right : sized ≡ true → Reads (step (absOf c t l p) (read time i (length out))) c t l p out d t′ l′ out′
-  pub wrong : sized ≡ false → Unsized c t l out d t′ l′ out′
+    Holds c t i row → Reads (λ x. ruleOf x i (length out) time) c t l p out d t′ l′ out′

@@ -4,12 +4,11 @@ ghost use Prim.Native.Nat.{_≤_};
 ghost use lib.ListN.{length};
 ghost use Rattle.rules.specs.Step.{read};
 ghost use Rattle.connection.specs.Promises.{sized, Promised};
-ghost use Rattle.connection_read.specs.Promises.{stepOf, Takes, ReadsRow, ReadsCall, Outputs};
+ghost use Rattle.connection_read.specs.Promises.{stepOf, Takes, ReadsRow, Outputs};
 use connection::Connection;
 use connection::Done;
 use connection::Handle;
 use handlers::ReadStep;
-use rules::Reply;
 use rules::Slot;
 use table::row::Row;
 
@@ -47,13 +46,16 @@ fn take(
     requires { ⌜ step .count ≤ length (now out) ⌝ }
     ensures { λ r. ⌜ Takes c (now (table .entry)) (now (links .entry)) (now (pool .entry)) (slot .0) row step (now (out .entry)) r (now (table .exit)) (now (links .exit)) (now (out .exit)) ⌝ }
 {
-    let memory = c.memory;
     let n = step.count as usize;
-    let drawn = memory.drain(table, links, pool, slot, row, step.stream, &mut out[..n]);
-    let connection = c.with_growth(step.growth).with_memory(drawn.memory);
+    let memory = c.memory
+        .drain(table, links, pool, slot, row, step.stream, &mut out[..n]);
     let answer = step.answer;
     Done {
-        connection,
+        connection: Connection {
+            growth: step.growth,
+            memory,
+            ..c
+        },
         answer,
         read: step.count,
     }
@@ -75,34 +77,14 @@ fn read_row(
     let config = c.config;
     if handlers::read::is_shut(c.ended, config.read_after_close) {
         let answer = handlers::read::nothing_read(slot);
-        return connection::answered(c, answer);
+        return Done {
+            connection: c,
+            answer,
+            read: 0,
+        };
     }
     let step = step_of(c, slot, row, out.len(), time);
     take(c, table, links, pool, slot, row, step, out)
-}
-
-// A read once the sizes are known: its time, and then its handle.
-fn read_call(
-    c: Connection,
-    table: &mut [u64],
-    links: &mut [u32],
-    pool: &[u8],
-    slot: Slot,
-    out: &mut [u8],
-    time: u64,
-    sized: bool,
-) -> Done
-    ensures { λ r. ⌜ ReadsCall sized c (now (table .entry)) (now (links .entry)) (now (pool .entry)) (slot .0) (now (out .entry)) time r (now (table .exit)) (now (links .exit)) (now (out .exit)) ⌝ }
-{
-    if !sized {
-        return connection::refuse(c, Reply::Size);
-    }
-    let memory = c.memory;
-    let found = connection::held_row(memory.slots, &table[..], slot, time);
-    match found {
-        Handle::Refused(reply) => connection::refuse(c, reply),
-        Handle::Held(row) => read_row(c, table, links, pool, slot, row, out, time),
-    }
 }
 
 // Reads the oldest unread bytes of a handle's stream into `out`, and gives a window update into `sent` where one is due.
@@ -119,10 +101,17 @@ pub fn read(
     ensures { λ r. ⌜ Promised (sized c (length (now (table .entry))) (length (now (links .entry))) (length (now (pool .entry))) (length (now (sent .entry)))) c (now (table .entry)) (now (links .entry)) (now (pool .entry)) (read time (slot .0) (length (now (out .entry)))) r (now (table .exit)) (now (links .exit)) (now (pool .entry)) ⌝ }
     ensures { λ r. ⌜ Outputs (sized c (length (now (table .entry))) (length (now (links .entry))) (length (now (pool .entry))) (length (now (sent .entry)))) c (now (table .entry)) (now (links .entry)) (now (pool .entry)) time (slot .0) (now (out .entry)) (now (sent .entry)) r (now (out .exit)) (now (sent .exit)) ⌝ }
 {
-    let fit = connection::sized(c, table.len(), links.len(), pool.len(), sent.len());
-    let done = read_call(c, table, links, pool, slot, out, time, fit);
-    let answer = done.answer;
-    let frame = answer.sent;
-    connection::put(sent, frame);
-    done
+    let fits = connection::sized(c, table.len(), links.len(), pool.len(), sent.len());
+    let memory = c.memory;
+    let found = connection::held_row(memory.slots, &table[..], fits, slot, time);
+    match found {
+        Handle::Refused(reply) => connection::refuse(c, reply),
+        Handle::Held(row) => {
+            let done = read_row(c, table, links, pool, slot, row, out, time);
+            let answer = done.answer;
+            let frame = answer.sent;
+            connection::put(sent, frame);
+            done
+        }
+    }
 }

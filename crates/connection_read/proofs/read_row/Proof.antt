@@ -1,11 +1,9 @@
--- `reading::read_row` meets its contract: nothing is read of an ended connection, else the step is taken. Assumes nothing.
+-- `connection_read::read_row` meets its contract: nothing is read of an ended connection, else the step is taken. Assumes nothing.
 use mathlib.Core.Path.{sym, _∙_}
 use borrow.Author.Needs.{needs}
 use lib.ListN.{length}
 use Rattle.rules.specs.State.{entry}
 use Rattle.handlers.specs.Locals.{performRead}
-use Rattle.memory.specs.Slots.{slotsOf}
-use Rattle.connection.specs.Abstract.{absOf}
 use Rattle.connection_read.specs.Promises.{ruleOf}
 use Rattle.connection_read.proofs.Rows.{step-room, step-giving, row-draws, row-rule}
 use Rattle.connection_read.proofs.Calls.{same-reads, shut-reads}
@@ -18,14 +16,11 @@ is-shut-requires c κs = search needs
 nothing-read-requires : tie.Need-nothing-read-requires
 nothing-read-requires c κs = search needs
 
-answered-requires : tie.Need-answered-requires
-answered-requires c κs = search needs
-
 returns : tie.Need-returns
 returns c h =
-    let a = c .before .before .before .before .before .before .before .before .before .args in
-    rw (c .answered .ensures, c .before .nothing-read .ensures)
-    (shut-reads (a .c) (a .table .now) (a .links .now) (a .pool .now) (a .out .now) (a .slot .0) (a .time) (sym (c .before .before .before .is-shut .ensures) ∙ c .before .before .if1 .taken))
+    let a = c .before .before .before .before .before .before .before .before .args in
+    rw (c .nothing-read .ensures)
+    (shut-reads (a .c) (a .table .now) (a .links .now) (a .pool .now) (a .out .now) (a .slot .0) (a .time) (sym (c .before .before .is-shut .ensures) ∙ c .before .if1 .taken))
 
 step-of-requires : tie.Need-step-of-requires
 step-of-requires c κs = search needs
@@ -50,12 +45,9 @@ returns-2 c h =
     let k = c .before .before .before .before .before .before .take in
     let e = c .before .before .before .before .before .before .before .before .before .before .step-of in
     let n = length (a .out .now) in
-    let x = absOf (a .c) (a .table .now) (a .links .now) (a .pool .now) in
-    let test = c .before .before .before .before .before .before .before .before .before .before .before .if1 .left in
-    let live = sym (c .before .before .before .before .before .before .before .before .before .before .before .before .is-shut .ensures) ∙ test in
+    let live = sym (c .before .before .before .before .before .before .before .before .before .before .before .before .is-shut .ensures) ∙ c .before .before .before .before .before .before .before .before .before .before .before .if1 .left in
     same-reads (a .c) (a .table .now) (a .links .now) (a .pool .now) (a .out .now)
-    (performRead x (a .slot) (entry (slotsOf (a .c .memory) (a .table .now) (a .links .now) (a .pool .now)) (a .slot .0)) (e .result))
-    (ruleOf x (a .slot .0) n (a .time))
+    (λ x. performRead x (a .slot) (entry (x .slots) (a .slot .0)) (e .result)) (λ x. ruleOf x (a .slot .0) n (a .time))
     (k .result) (k .last .1 .0) (k .last .1 .1 .0) (k .last .1 .1 .1 .1 .1 .1 .1 .0)
     (λ v. rw (e .ensures) (row-rule (a .c) (a .slot .0) (a .row) n (a .time) (a .table .now) (a .links .now) (a .pool .now) h live v))
     (k .ensures (rw (e .ensures) (step-giving (a .c) (a .slot .0) (a .row) n (a .time)))
@@ -67,7 +59,6 @@ read-row-spec =
     (tie.spec
     is-shut-requires
     nothing-read-requires
-    answered-requires
     returns
     step-of-requires
     take-requires

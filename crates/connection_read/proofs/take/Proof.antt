@@ -1,4 +1,4 @@
--- `reading::take` meets its contract: the front of the lent output is all that the drain is lent. Assumes nothing.
+-- `connection_read::take` meets its contract: the front of the lent output is all that the drain is lent. Assumes nothing.
 use mathlib.Core.Path.{sym}
 use borrow.Author.Needs.{needs}
 use lib.Seq.{length-take-le}
@@ -14,17 +14,11 @@ slice-relend-prefix-drain c = search needs
 
 slice-aggregate-drain : tie.Need-slice-aggregate-drain
 slice-aggregate-drain c =
-    let s = c .before .before .before .before .before .before .before .before .before in
+    let s = c .before .before .before .before .before .before .before .before in
     sym (length-take-le (s .args .step .count) (s .args .out .now) (s .pre))
 
 drain-requires : tie.Need-drain-requires
 drain-requires c κs = search needs
-
-with-growth-requires : tie.Need-with-growth-requires
-with-growth-requires c κs = search needs
-
-with-memory-requires : tie.Need-with-memory-requires
-with-memory-requires c κs = search needs
 
 same-length : tie.Need-same-length
 same-length c = search needs
@@ -37,12 +31,11 @@ same-length-3 c = search needs
 
 returns : tie.Need-returns
 returns c gives draws =
-    let s = c .before .before .before .before .before .before .before .before .before .before .before .before .before .before .before .before .before .before .before in
+    let s = c .before .before .before .before .before .before .before .before .before .before .before .before .before .before .before .before .before .before in
     let a = s .args in
     let d = c .before .before .before .before .before .before .before .before .before .drain in
-    rw (c .before .with-memory .ensures, c .before .before .with-growth .ensures)
-    (take-reads (a .c) (a .table .now) (a .links .now) (a .pool .now) (a .slot .0) (a .step) (d .result .memory) (d .last .1 .0) (d .last .1 .1 .0)
-    (a .row) gives draws (a .out .now) (s .pre) (d .last .1 .1 .1 .1 .1 .1 .1 .0) (d .kept .1 .1 .1 .1 .1 .1 .1 .0) (d .result .count) (d .ensures))
+    take-reads (a .c) (a .table .now) (a .links .now) (a .pool .now) (a .slot .0) (a .step) (d .result) (d .last .1 .0) (d .last .1 .1 .0)
+    (a .row) gives draws (a .out .now) (s .pre) (d .last .1 .1 .1 .1 .1 .1 .1 .0) (d .kept .1 .1 .1 .1 .1 .1 .1 .0) (d .ensures)
 
 pub take-spec : {M : Type 1} → statement M
 take-spec =
@@ -52,8 +45,6 @@ take-spec =
     slice-relend-prefix-drain
     slice-aggregate-drain
     drain-requires
-    with-growth-requires
-    with-memory-requires
     same-length
     same-length-2
     same-length-3
