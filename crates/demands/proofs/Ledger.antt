@@ -1,8 +1,8 @@
 -- Accounts that balance with the windows, and the calls on handles that keep them so. Assumes nothing.
 use mathlib.Core.Path.{_≡_, refl, sym, subst}
 use mathlib.Core.Bool.{Bool, true, false, cond}
-use mathlib.Core.List.{List, [], map}
-use Prim.Native.Nat.{ℕ, _+_, _-_, _≤_, _<_, min}
+use mathlib.Core.List.{List, map}
+use Prim.Native.Nat.{ℕ, _+_, _-_, _<_, min}
 use native.Mathlib.Omega.{arith}
 use lib.ListN.{length, set, length-set}
 use lib.Dec.{eqb, ltb, leb}
@@ -19,15 +19,12 @@ use Rattle.stream.specs.States.{canRead, canWrite}
 use Rattle.stream.specs.Streams as stream
 use Rattle.stream.specs.declared.Flag.{Flag}
 use Rattle.stream.specs.declared.Flag.the-variants as owed
-use Rattle.stream.specs.declared.Sent.{Sent}
-use Rattle.stream.specs.declared.Sent.the-variants.{Frame, Nothing}
+use Rattle.stream.specs.declared.Sent.the-variants.{Frame}
 use Rattle.stream.specs.declared.State.{State}
 use Rattle.stream.specs.declared.State.the-variants.{Open, SendClosed, RecvClosed, Closed}
 use Rattle.stream.specs.declared.Stream.{Stream}
 use Rattle.stream.specs.declared.Updated.{Updated}
-use Rattle.stream.specs.declared.Reading.{Reading}
 use Rattle.stream.specs.declared.Reading.the-variants as reading
-use Rattle.stream.specs.declared.Written.the-variants as written
 use Rattle.rules.specs.Lists.{Place, at, nowhere}
 use Rattle.rules.specs.State.{Entry, Conn, vacant, entry, withGrowth, isFree, hasId, find, lowestFree, listedCount, unacknowledged}
 use Rattle.rules.specs.Ending.{Result, endEntry}

@@ -1,5 +1,5 @@
 -- The ledger, proved. The statements are those of `specs/Ledger.antt`. Assumes nothing.
-use mathlib.Core.Path.{_≡_, refl, sym, subst}
+use mathlib.Core.Path.{_≡_, refl}
 use mathlib.Core.Bool.{Bool, true, false, cond}
 use mathlib.Core.List.{List, [], _∷_}
 use Prim.Native.Nat.{ℕ, suc, _+_, _*_, _≤_}
@@ -18,17 +18,18 @@ use Rattle.rules.specs.Lists.{sum}
 use Rattle.rules.specs.Settings.{lastTime}
 use Rattle.rules.specs.State.{Entry, Conn, vacant, entry, one, unreadTotal}
 use Rattle.rules.specs.Ending.{Result, refuse}
-use Rattle.rules.specs.Calls.{growthOf, pingOut, tickRules}
+use Rattle.rules.specs.Frames.{ackStep, onReset, makeAt, make, synRules, synData, synUpdate, dataRules, updateRules, pongRules, pingRules, frameRules, onHeader}
+use Rattle.rules.specs.Calls.{growthOf, readRest, readWith, windowStep, readRules, writeWith, writeRules, pingOut, tickRules}
 use Rattle.rules.specs.Step.{onDecoded, step}
 use Rattle.rules.specs.Step as rules
 use Rattle.demands.specs.Demands.{heldCount}
 use Rattle.demands.specs.Ledger.{Account, bookedDecoded, booked, Books, new, then, over, usable, heldWindows, heldUsable, FitsHandles}
-use Rattle.demands.specs.Ledger.{CreditIsALedger, SendingIsALedger, UsableIsTheWindow, WindowsAreWithinTheLimit, CreditIsWithinTheLimit, WindowsAreWithinForHandles, CreditIsWithinForHandles, CreditInTheTable}
+use Rattle.demands.specs.Ledger.{CreditIsALedger, SendingIsALedger, UsableIsTheWindow, WindowsAreWithinTheLimit, CreditIsWithinTheLimit, WindowsAreWithinForHandles, CreditIsWithinForHandles, CreditInTheTable, LedgerRuns}
 use Rattle.demands.proofs.Lists.{split, getD-same, sum-le, sum-add, sum-each}
 use Rattle.demands.proofs.Invariant.{Good, Inv}
 use Rattle.demands.proofs.Sound.{within}
 use Rattle.demands.proofs.Steps.{started, sound, reached}
-use Rattle.demands.proofs.Ledger.{Balanced, Balance, account-changes, end-balance, blank-balanced, reads-balance, writes-balance, closes-balance, opens-balance, drops-balance}
+use Rattle.demands.proofs.Ledger.{Balance, account-changes, end-balance, blank-balanced, reads-balance, writes-balance, closes-balance, opens-balance, drops-balance}
 use Rattle.demands.proofs.LedgerFrames.{headers-balance}
 
 -- ---- a call
@@ -50,13 +51,13 @@ module _ (c : Conn) (v : Inv c) (b : ℕ → Account) (h : Balance b (c .slots))
   unfolding tickRules
   ticks now = ticks-out (nextPing (c .pings) now .ping) _ h
 
-  decodes : (d : Decoded) (body : List ℕ) (now : ℕ) → Balance (bookedDecoded d c (onDecoded d c body now .outcome) b) (onDecoded d c body now .after .slots)
+  decodes : (d : Decoded) (body : List ℕ) (now : ℕ) → Balance (bookedDecoded d c body (onDecoded d c body now .outcome) b) (onDecoded d c body now .after .slots)
   unfolding onDecoded
   decodes found.Size body now = h
   decodes (found.Version n) body now = live-ok (λ r. Balance b (r .after .slots)) now _ h h (λ l. end-balance b (c .slots) h)
   decodes (found.Type n) body now = live-ok (λ r. Balance b (r .after .slots)) now _ h h (λ l. end-balance b (c .slots) h)
   decodes (found.Header x) body now =
-      live-ok (λ r. Balance (bookedDecoded (found.Header x) c (r .outcome) b) (r .after .slots)) now _ h h (λ l. headers-balance x b c v l h body now)
+      live-ok (λ r. Balance (bookedDecoded (found.Header x) c body (r .outcome) b) (r .after .slots)) now _ h h (λ l. headers-balance x body b c v l h now)
 
   abbrev Booked : rules.Call → Result → Type 0
   Booked k r = Balance (booked c k (r .outcome) b) (r .after .slots)
@@ -163,3 +164,9 @@ credit-in-the-table c b s =
     (λ i h. let u = usable-is-the-window c b s i (v .good i .holds h) .1 in omega (arith, u)) in
     let p = sum-le (λ e. cond (e .listed) (f e) 0) (λ e. k e + growthOf e) es vacant (λ j. listed-fits (entry es j .listed) (entry es j) (v .good j)) in
     omega (arith, p, q, sum-add k growthOf es, sum-each (λ (e : Entry). e .listed) initialWindow es, v .figure, v .bounded, v .count)
+
+-- ---- runs
+
+pub ledger-runs : LedgerRuns
+unfolding ackStep onReset makeAt make synRules synData synUpdate dataRules updateRules pongRules pingRules frameRules onHeader readRest readWith windowStep readRules writeWith writeRules pingOut tickRules onDecoded step
+ledger-runs = ((refl, refl), (refl, refl), (refl, refl))

@@ -23,11 +23,13 @@ use Rattle.rules.specs.declared.Value.{Value}
 use Rattle.rules.specs.declared.Value.the-variants as value
 use Rattle.rules.specs.Lists.{Place, at, nowhere}
 use Rattle.rules.specs.Replies.{Outcome}
-use Rattle.rules.specs.Settings.{checked}
+use Rattle.rules.specs.Settings.{checked, configOf}
 use Rattle.rules.specs.State.{Entry, Conn, initial, entry, find, unreadTotal}
+use Rattle.rules.specs.Frames.{bodyLength}
 use Rattle.rules.specs.Step as rules
 use Rattle.demands.specs.Demands.{Reach, heldCount}
 use Rattle.demands.specs.History.{isDone, put}
+use Rattle.demands.specs.Witnesses.{client, head, zeros, synData, reset, From, grows}
 
 -- ---- a handle's account
 
@@ -49,38 +51,31 @@ creditIn tag.WindowUpdate n = n
 creditIn tag.Ping n = 0
 creditIn tag.GoAway n = 0
 
--- the bytes that it carries: a body of another length than the header's is refused (13)
-abbrev pub bytesIn : Tag → ℕ → ℕ
-bytesIn tag.Data n = n
-bytesIn tag.WindowUpdate n = 0
-bytesIn tag.Ping n = 0
-bytesIn tag.GoAway n = 0
-
--- a frame came in for the stream
-abbrev pub cameIn : Header → Account → Account
-cameIn h a = record {
+-- a frame with the body came in for the stream
+abbrev pub cameIn : Header → List ℕ → Account → Account
+cameIn h body a = record {
   granted = a .granted;
-  accepted = a .accepted + bytesIn (h .tag) (h .length .0);
+  accepted = a .accepted + length body;
   credited = a .credited + creditIn (h .tag) (h .length .0);
   sent = a .sent;
 }
 
--- a call on the handle gave a frame to send, or none
+-- a call on the handle gave a frame to send, or none; the bytes are as many as the header says
 abbrev pub wentOut : Sent → Account → Account
 wentOut Nothing a = a
 wentOut (Frame h) a = record {
   granted = a .granted + creditIn (h .tag) (h .length .0);
   accepted = a .accepted;
   credited = a .credited;
-  sent = a .sent + bytesIn (h .tag) (h .length .0);
+  sent = a .sent + bodyLength (h .tag) (h .length .0);
 }
 
 -- ---- what a call books
 
 -- for the stream in the table that has the frame's id
-abbrev pub bookedAt : Place → Header → (ℕ → Account) → ℕ → Account
-bookedAt (at i) h b = put i (cameIn h (b i)) b
-bookedAt nowhere h b = b
+abbrev pub bookedAt : Place → Header → List ℕ → (ℕ → Account) → ℕ → Account
+bookedAt (at i) h body b = put i (cameIn h body (b i)) b
+bookedAt nowhere h body b = b
 
 -- an answer that names a slot and a new id made a handle there, with this account
 abbrev pub opened : Which → Value → Account → (ℕ → Account) → (ℕ → Account) → ℕ → Account
@@ -89,20 +84,20 @@ opened (which.At i) value.None a b else = else
 opened which.None v a b else = else
 
 -- a frame that was done and has no RST
-abbrev pub bookedFrame : Header → Place → Outcome → (ℕ → Account) → ℕ → Account
-bookedFrame h place o b =
-    cond (isDone (o .reply)) (cond (contains (h .flags) rst) b (opened (o .slot) (o .value) (cameIn h blank) b (bookedAt place h b))) b
+abbrev pub bookedFrame : Header → List ℕ → Place → Outcome → (ℕ → Account) → ℕ → Account
+bookedFrame h body place o b =
+    cond (isDone (o .reply)) (cond (contains (h .flags) rst) b (opened (o .slot) (o .value) (cameIn h body blank) b (bookedAt place h body b))) b
 
-abbrev pub bookedDecoded : Decoded → Conn → Outcome → (ℕ → Account) → ℕ → Account
-bookedDecoded found.Size c o b = b
-bookedDecoded (found.Version v) c o b = b
-bookedDecoded (found.Type t) c o b = b
-bookedDecoded (found.Header h) c o b = bookedFrame h (find (c .slots) (h .«stream_id»)) o b
+abbrev pub bookedDecoded : Decoded → Conn → List ℕ → Outcome → (ℕ → Account) → ℕ → Account
+bookedDecoded found.Size c body o b = b
+bookedDecoded (found.Version v) c body o b = b
+bookedDecoded (found.Type t) c body o b = b
+bookedDecoded (found.Header h) c body o b = bookedFrame h body (find (c .slots) (h .«stream_id»)) o b
 
 -- a handle that is made or dropped starts from nothing
 abbrev pub booked : Conn → rules.Call → Outcome → (ℕ → Account) → ℕ → Account
 booked c (rules.tick now) o b = b
-booked c (rules.frame now head body) o b = bookedDecoded (decoded head) c o b
+booked c (rules.frame now head body) o b = bookedDecoded (decoded head) c body o b
 booked c (rules.open-stream now) o b = cond (isDone (o .reply)) (opened (o .slot) (o .value) blank b b) b
 booked c (rules.read now i asked) o b = put i (wentOut (o .header) (b i)) b
 booked c (rules.write now i given) o b = put i (wentOut (o .header) (b i)) b
@@ -154,6 +149,10 @@ heldWindows es = over (λ e. e .held) (λ i. entry es i .stream .flow .«receive
 abbrev pub heldUsable : (ℕ → Account) → List Entry → ℕ
 heldUsable b es = over (λ e. e .held) (λ i. usable (b i)) es
 
+-- on a stream in the table, with what is unread of it
+abbrev pub tableUsable : (ℕ → Account) → List Entry → ℕ
+tableUsable b es = over (λ e. e .listed) (λ i. usable (b i) + length (entry es i .bytes)) es
+
 -- so much credit with all unread bytes is within the limit and 262,144 for each of the n handles beyond M
 abbrev pub FitsHandles : Conn → ℕ → Type 0
 FitsHandles c credit =
@@ -181,6 +180,33 @@ CreditIsWithinForHandles = (c : Conn) (b : ℕ → Account) → Books c b → Fi
 
 -- On the streams in the table, the only ones that take a frame, it never passes the limit at all, however many handles are held.
 abbrev pub CreditInTheTable : Type 0
-CreditInTheTable =
-    (c : Conn) (b : ℕ → Account) → Books c b →
-    over (λ e. e .listed) (λ i. usable (b i) + length (entry (c .slots) i .bytes)) (c .slots) ≤ c .config .limit
+CreditInTheTable = (c : Conn) (b : ℕ → Account) → Books c b → tableUsable b (c .slots) ≤ c .config .limit
+
+-- ---- runs, by computation: the accounts are not met by booking nothing, and the condition on handles is needed
+
+-- the accounts once these calls are made as well
+abbrev pub bookedOver : Conn → List rules.Call → (ℕ → Account) → ℕ → Account
+bookedOver c [] b = b
+bookedOver c (k ∷ ks) b = bookedOver (rules.step c k .after) ks (booked c k (rules.step c k .outcome) b)
+
+abbrev pub accountsOf : Settings → List rules.Call → ℕ → Account
+accountsOf s ks = bookedOver (initial (configOf s)) ks (λ i. blank)
+
+-- a stream that a WindowUpdate with a credit of 5 opens, and a write of 3 bytes on it
+abbrev pub sends : List rules.Call
+sends = rules.frame 0 (head 1 1 2 5) [] ∷ rules.write 0 0 (zeros 3) ∷ []
+
+-- a handle of a stream that was reset, beside the one stream that M permits
+abbrev pub resetBeside : List rules.Call
+resetBeside = synData 0 2 0 ∷ reset 0 2 ∷ synData 0 4 0 ∷ []
+
+abbrev pub LedgerRuns : Type 0
+LedgerRuns =
+    -- 131,072 bytes come in and are read; a WindowUpdate grants so many again and the 262,144 by which the maximum grew
+    From (client 4 2097152 4 4294967295) grows (λ r.
+    accountsOf (client 4 2097152 4 4294967295) grows 0 ≡ record { granted = 393216; accepted = 131072; credited = 0; sent = 0 })
+    × From (client 2 1048576 2 64) sends (λ r.
+    accountsOf (client 2 1048576 2 64) sends 0 ≡ record { granted = 0; accepted = 0; credited = 5; sent = 3 })
+    -- with two handles and M = 1 the credit is 262,144 above the limit, which is all that the bound permits
+    × From (client 1 262144 2 0) resetBeside (λ r.
+    heldUsable (accountsOf (client 1 262144 2 0) resetBeside) (r .after .slots) ≡ 524288)
