@@ -1,5 +1,5 @@
 -- Credit as a ledger: for each held handle, the credit and the bytes of the frames that went out and came in since it was made, and
--- what they say of windows and of the limit. Nothing is read off a window: the numbers are those of headers on the wire.
+-- what they say of windows and of the limit. Nothing is read off a window: the numbers are those of headers and bodies on the wire.
 use mathlib.Core.Path.{_≡_}
 use mathlib.Core.Bool.{Bool, true, cond}
 use mathlib.Core.List.{List, [], _∷_}
@@ -83,7 +83,7 @@ opened (which.At i) (value.Of v) a b else = put (i .0) a b
 opened (which.At i) value.None a b else = else
 opened which.None v a b else = else
 
--- a frame that was done and has no RST
+-- a frame that was done; with RST it brings neither credit nor bytes
 abbrev pub bookedFrame : Header → List ℕ → Place → Outcome → (ℕ → Account) → ℕ → Account
 bookedFrame h body place o b =
     cond (isDone (o .reply)) (cond (contains (h .flags) rst) b (opened (o .slot) (o .value) (cameIn h body blank) b (bookedAt place h body b))) b
