@@ -15,6 +15,9 @@ pub mod Bytes
 pub mod Woken
 pub mod Turns
 pub mod Theorems
+pub mod Ledger
+pub mod LedgerFrames
+pub mod LedgerTheorems
 pub mod Stale
 pub mod Framed
 pub mod Progress

@@ -150,7 +150,7 @@ module _ (c : Conn) (about : ℕ → Type 0) (opening : Bool) (e : Event) where
 
 -- ---- ending
 
-end-flow : (b : Bool) (s : Stream) → cond b (closed s) (withWaits s false false) .flow ≡ s .flow
+pub end-flow : (b : Bool) (s : Stream) → cond b (closed s) (withWaits s false false) .flow ≡ s .flow
 end-flow true s = refl
 end-flow false s = refl
 
@@ -214,11 +214,11 @@ module _ (c : Conn) (v : Inv c) where
 
 -- ---- room
 
--- a held stream's unread bytes are within its maximum, a free slot has none
-within : (e : Entry) → Good e → length (e .bytes) ≤ cond (e .held) initialWindow 0 + growthOf e
+-- a held stream's receive window and unread bytes are within its maximum, a free slot has none
+pub within : (e : Entry) → Good e → cond (e .held) (e .stream .flow .«receive_window») 0 + length (e .bytes) ≤ cond (e .held) initialWindow 0 + growthOf e
 within e g = go (e .held) refl
   where
-    go : (b : Bool) → e .held ≡ b → length (e .bytes) ≤ cond b initialWindow 0 + growthOf e
+    go : (b : Bool) → e .held ≡ b → cond b (e .stream .flow .«receive_window») 0 + length (e .bytes) ≤ cond b initialWindow 0 + growthOf e
     go true h = omega (arith, g .flows .fits, g .flows .low)
     go false h = rw (g .free h) (omega arith)
 
@@ -227,7 +227,7 @@ pub capacity : (es : List Entry) → ((j : ℕ) → Good (entry es j)) → unrea
 capacity es g =
     omega (
       arith,
-      sum-le (λ (e : Entry). length (e .bytes)) (λ e. cond (e .held) initialWindow 0 + growthOf e) es vacant (λ j. within (entry es j) (g j)),
+      sum-le (λ (e : Entry). length (e .bytes)) (λ e. cond (e .held) initialWindow 0 + growthOf e) es vacant (λ j. omega (arith, within (entry es j) (g j))),
       sum-add (λ (e : Entry). cond (e .held) initialWindow 0) growthOf es,
       sum-each (λ (e : Entry). e .held) initialWindow es,
     )

@@ -2,6 +2,7 @@
 pub mod Demands
 pub mod History
 pub mod Theorems
+pub mod Ledger
 pub mod Handles
 pub mod Progress
 pub mod Waits

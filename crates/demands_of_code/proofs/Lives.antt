@@ -19,18 +19,24 @@ use Rattle.connection_open.specs.declared.Created.{Created}
 use Rattle.connection_open.specs.declared.Created.the-variants.{Made, Wrong, Size}
 use Rattle.trace.specs.Runs.{only, reads}
 use Rattle.trace.specs.Turns.{runsFrom, RanAs}
+use Rattle.trace.specs.declared.Report.{Report}
 use Rattle.trace.proofs.Steps.{steps}
 use Rattle.demands.specs.Demands.{Reach}
 use Rattle.demands.specs.Demands as reach
 use Rattle.demands.specs.History.{Heard, Story}
 use Rattle.demands.specs.History as story
+use Rattle.demands.specs.Ledger.{Account, Books, bookedOver}
+use Rattle.demands.specs.Ledger as books
 use Rattle.demands.proofs.Theorems.{growth-is-a-sum, growth-is-within, windows-are-within, unread-is-the-rest, reads-give-the-next, room-for-m}
+use Rattle.demands.proofs.LedgerTheorems.{credit-is-a-ledger, sending-is-a-ledger, credit-is-within-the-limit, credit-is-within-for-handles, credit-in-the-table}
+use Rattle.demands_of_code.specs.Credit.{accounts, Ledger, Credit, TableCredit}
 use Rattle.demands_of_code.specs.Lives.{Lives, made, then, unsized, ran, unran, heardOver, Growth, Unread, Given, Room}
 
--- valid, and the rules' state has this history
-pub record Holds (c : Connection) (t l p : List ℕ) (h : ℕ → Heard) : Type 0 where
+-- valid, and the rules' state has this history and these accounts
+pub record Holds (c : Connection) (t l p : List ℕ) (h : ℕ → Heard) (b : ℕ → Account) : Type 0 where
   pub valid : Valid c t l p
   pub told : Story (absOf c t l p) h
+  pub kept : Books (absOf c t l p) b
 
 -- what was made was not refused
 unmade : {A : Type 0} (c : Connection) (r : Created) → Made c ≡ r → number r ≡ 14 → A
@@ -38,36 +44,45 @@ unmade c r e n = absurd (let z : _≡_ {A = ℕ} 0 14 = ap number e ∙ n in ome
 
 -- a connection is made of settings that are in range
 begins : (s : Settings) (t l p : List ℕ) (c : Connection) (t′ l′ p′ : List ℕ) → Creates s t l p (Made c) t′ l′ p′
-    → (x : Checked) → checked s ≡ x → Holds c t′ l′ p′ (λ i. story.unheard)
+    → (x : Checked) → checked s ≡ x → Holds c t′ l′ p′ (λ i. story.unheard) (λ i. books.blank)
 begins s t l p c t′ l′ p′ m (settings.Wrong w) e = unmade c (Wrong w) (m .wrong w e .0) refl
 begins s t l p c t′ l′ p′ m (settings.Fine k) e = go (sized k (length t) (length l) (length p)) refl
   where
-    go : (b : Bool) → sized k (length t) (length l) (length p) ≡ b → Holds c t′ l′ p′ (λ i. story.unheard)
-    go true q = record { valid = m .made k e q .0; told = rw (m .made k e q .1) (story.new s e) }
+    go : (b : Bool) → sized k (length t) (length l) (length p) ≡ b → Holds c t′ l′ p′ (λ i. story.unheard) (λ i. books.blank)
+    go true q = let n = m .made k e q in record { valid = n .0; told = rw (n .1) (story.new s e); kept = rw (n .1) (books.new s e) }
     go false q = unmade c Size (m .sizes k e q .0) refl
 
--- a history goes on over any calls
+-- a history and accounts go on over any calls
 goes-on : {c : Conn} {h : ℕ → Heard} → Story c h → (ks : List Call) → Story (run c ks .after) (heardOver c ks h)
 goes-on s [] = s
 goes-on s (k ∷ ks) = goes-on (story.then s k) ks
 
-pub lives : {c : Connection} {t l p : List ℕ} {h : ℕ → Heard} → Lives c t l p h → Holds c t l p h
+keeps-on : {c : Conn} {b : ℕ → Account} → Books c b → (ks : List Call) → Books (run c ks .after) (bookedOver c ks b)
+keeps-on s [] = s
+keeps-on s (k ∷ ks) = keeps-on (books.then s k) ks
+
+-- nothing changed
+same : {c d : Connection} {t l p t′ l′ p′ : List ℕ} {h : ℕ → Heard} {b : ℕ → Account} → d ≡ c → t′ ≡ t → l′ ≡ l → p′ ≡ p → Holds c t l p h b → Holds d t′ l′ p′ h b
+same x y z w s = rw (x, y, z, w) s
+
+pub lives : {c : Connection} {t l p : List ℕ} {h : ℕ → Heard} (a : Lives c t l p h) → Holds c t l p h (accounts a)
 lives (made s m) = begins s _ _ _ _ _ _ _ m (checked s) refl
 lives (then {c = c} {t = t} {l = l} {p = p} before k d t′ l′ p′ promised) =
     let f : Follows c t l p (step (absOf c t l p) k) d t′ l′ p′ = promised .steps refl (lives before .valid) in
-    record { valid = f .valid; told = rw (f .after) (story.then (lives before .told) k) }
+    record { valid = f .valid; told = rw (f .after) (story.then (lives before .told) k); kept = rw (f .after) (books.then (lives before .kept) k) }
 lives (unsized {c = c} before k d t′ l′ p′ promised) =
     let e : d ≡ _ = promised .wrong refl in
     let kept = promised .refuses (rw e refl) in
-    rw (kept .0, kept .1, kept .2, kept .3) (lives before)
+    same (kept .0) (kept .1) (kept .2) (kept .3) (lives before)
 lives (ran {c = c} {t = t} {l = l} {p = p} before s o place allowance r t′ l′ p′ o′ runs) =
     let f : RanAs (runsFrom c t l p s o place allowance) place o r t′ l′ p′ o′ = runs .steps refl (lives before .valid) in
     let ks = reads (runsFrom c t l p s o place allowance .applied) s (place .at) in
     let m = steps (allowance - place .applied) (absOf c t l p) s (place .at) (place .applied) (only (length o - place .put)) in
-    record { valid = f .valid; told = rw (f .after ∙ m .after) (goes-on (lives before .told) ks) }
+    let e = f .after ∙ m .after in
+    record { valid = f .valid; told = rw e (goes-on (lives before .told) ks); kept = rw e (keeps-on (lives before .kept) ks) }
 lives (unran before s o place allowance r t′ l′ p′ o′ runs) =
     let kept = runs .wrong refl in
-    rw (kept .0, kept .1, kept .2, kept .3) (lives before)
+    same (ap (λ (x : Report). x .connection) (kept .0)) (kept .1) (kept .2) (kept .3) (lives before)
 
 story-reach : {c : Conn} {h : ℕ → Heard} → Story c h → Reach c
 story-reach (story.new s e) = reach.new s e
@@ -97,3 +112,16 @@ pub room : Room
 room c t l p h a large time head body few d t′ l′ p′ promised full =
     let f : Follows c t l p (step (absOf c t l p) (frame time head body)) d t′ l′ p′ = promised .steps refl (lives a .valid) in
     room-for-m (absOf c t l p) (reached a) time head body large few (sym (f .says .reply) ∙ full)
+
+pub ledger : Ledger
+ledger c t l p h a i held =
+    let b = lives a .kept in
+    (credit-is-a-ledger (absOf c t l p) (accounts a) b i held, sending-is-a-ledger (absOf c t l p) (accounts a) b i held)
+
+pub credit : Credit
+credit c t l p h a =
+    let b = lives a .kept in
+    (credit-is-within-the-limit (absOf c t l p) (accounts a) b, credit-is-within-for-handles (absOf c t l p) (accounts a) b)
+
+pub table-credit : TableCredit
+table-credit c t l p h a = credit-in-the-table (absOf c t l p) (accounts a) (lives a .kept)
