@@ -21,7 +21,7 @@ use Rattle.rules.specs.Step.{step, run}
 use Rattle.rules.specs.Step as rules
 use Rattle.demands.specs.Demands.{Reach, then, heldCount, ruled, wouldOpen, wouldQueue, wouldMake, Overflows}
 use Rattle.demands.specs.History.{event}
-use Rattle.demands.specs.Theorems.{endedForReads, GrowthIsASum, GrowthIsWithin, GrowthIsReturned, GrowthStays, WindowsAreWithin, BytesAreKept, UnreadIsTheRest, ReadsGiveTheNext, ReadsGiveAll, EndedReadsGiveNone, UnreadIsWithin, Opened, SevenExactly, EightExactly, WouldOpenIsExact, RoomForHandles, RoomForM, RoomForK, IdsAreOurs, IdsRise, IdsGoByTwo, NextIdIsAbove, ListedAreDistinct, ListedAreHeld, UnlistedAreClosed, FreeAreVacant, TableIsWithin, RefusalsChangeNothing, OnlyDoneGives, SettingsAreAllowed, SettingsStay}
+use Rattle.demands.specs.Theorems.{endedForReads, GrowthIsASum, GrowthIsWithin, GrowthIsReturned, GrowthStays, WindowsAreWithin, BytesAreKept, UnreadIsTheRest, ReadsGiveTheNext, ReadsGiveAll, EndedReadsGiveNone, UnreadIsWithin, Opened, SevenExactly, EightExactly, WouldOpenIsExact, RoomForHandles, RoomForM, UnqueuedNeedNoRoom, RoomForK, IdsAreOurs, IdsRise, IdsGoByTwo, NextIdIsAbove, ListedAreDistinct, ListedAreHeld, UnlistedAreClosed, FreeAreVacant, TableIsWithin, RefusalsChangeNothing, OnlyDoneGives, SettingsAreAllowed, SettingsStay}
 use Rattle.demands.proofs.Lists.{split, true-not-false, sum-eq, sum-count}
 use Rattle.demands.proofs.Invariant.{Good, Inv}
 use Rattle.demands.proofs.Sound.{moves}
@@ -141,6 +141,9 @@ room-for-handles c r n now head body h p e =
 
 pub room-for-m : RoomForM
 room-for-m c r now head body p h = room-for-handles c r (c .config .«max_num_streams») now head body h (omega (arith, p))
+
+pub unqueued-need-no-room : UnqueuedNeedNoRoom
+unqueued-need-no-room c r now head body n e = true-not-false (eight-exactly c r (rules.frame now head body) .0 e .0 .0) n
 
 pub room-for-k : RoomForK
 room-for-k c r k p e =

@@ -30,7 +30,7 @@ use Rattle.rules.specs.Calls.{growthOf, onSlot}
 use Rattle.rules.specs.Step.{step, run}
 use Rattle.rules.specs.Step as rules
 use Rattle.rules.specs.Replies.{Outcome, leavesAll, mayGive}
-use Rattle.demands.specs.Demands.{Reach, heldCount, heldGrowth, and, wouldOpen, wouldMake, Overflows}
+use Rattle.demands.specs.Demands.{Reach, heldCount, heldGrowth, and, wouldOpen, wouldQueue, wouldMake, Overflows}
 use Rattle.demands.specs.History.{Heard, Story, isDone}
 
 -- ---- growth
@@ -175,6 +175,12 @@ abbrev pub RoomForM : Type 0
 RoomForM =
     (c : Conn) → Reach c → (now : ℕ) (head body : List ℕ) →
     c .config .limit ≤ c .config .pool → heldCount (c .slots) + one (wouldOpen c now head body) ≤ c .config .«max_num_streams» →
+    step c (rules.frame now head body) .outcome .reply ≢ reply.NoRoom
+
+-- A frame whose body would not be queued, a WindowUpdate that opens a stream among them, needs no room, however many handles are held.
+abbrev pub UnqueuedNeedNoRoom : Type 0
+UnqueuedNeedNoRoom =
+    (c : Conn) → Reach c → (now : ℕ) (head body : List ℕ) → wouldQueue c now head body ≡ false →
     step c (rules.frame now head body) .outcome .reply ≢ reply.NoRoom
 
 -- K alone: with P at least limit + (K - M) x 262,144 no call at all is refused with 8 (reading E7).
