@@ -26,18 +26,19 @@ use Rattle.stream.specs.declared.Written.the-variants as written
 use Rattle.rules.specs.declared.Reply.{Reply}
 use Rattle.rules.specs.declared.Reply.the-variants as reply
 use Rattle.rules.specs.Settings.{lastTime}
-use Rattle.rules.specs.Lists.{Place, at, nowhere, sum}
-use Rattle.rules.specs.State.{Entry, Conn, vacant, entry, isFree, hasId, find, lowestFree, listedCount, unacknowledged, unreadTotal, room}
+use Rattle.rules.specs.Lists.{Place, at, nowhere}
+use Rattle.rules.specs.State.{Entry, Conn, vacant, entry, isFree, hasId, find, lowestFree, listedCount, unacknowledged, room}
 use Rattle.rules.specs.Ending.{Result, refuse}
 use Rattle.rules.specs.Frames.{bodyLength}
-use Rattle.rules.specs.Calls.{growthOf, openAt, open-rules, readRest, readWith, readRules, writeWith, writeRules, closeRules, dropAt, dropRules, pingOut, tickRules}
+use Rattle.rules.specs.Calls.{openAt, open-rules, readRest, readWith, readRules, writeWith, writeRules, closeRules, dropAt, dropRules, pingOut, tickRules}
 use Rattle.rules.specs.Step.{step}
 use Rattle.rules.specs.Step as rules
 use Rattle.rules.proofs.Lists.{Says, first-says, both, sum-at}
 use Rattle.demands.specs.Demands.{heldCount, ruled, opens, opensAs, takesAt, queuesAs, wouldQueue, openPasses, wouldMake, Overflows}
 use Rattle.demands.specs.Theorems.{endedForReads}
-use Rattle.demands.proofs.Lists.{split, true-not-false, sum-le, sum-add, sum-each, sum-spare}
-use Rattle.demands.proofs.Invariant.{Good, Inv, in-range}
+use Rattle.demands.proofs.Lists.{split, true-not-false, sum-spare}
+use Rattle.demands.proofs.Invariant.{Inv, in-range}
+use Rattle.demands.proofs.Sound.{openWindow, capacity}
 use Rattle.demands.proofs.Acks.{Located, is-listed}
 use Rattle.demands.proofs.Opening.{free-held}
 use Rattle.demands.proofs.Framed.{all-held, admitted-by}
@@ -146,29 +147,6 @@ module _ (c : Conn) (v : Inv c) where
 
 -- ---- room
 
--- what is open to the remote of a held stream
-abbrev window : Entry → ℕ
-window e = cond (e .held) (e .stream .flow .«receive_window») 0
-
--- a held stream's unread bytes and its window are within its maximum, a free slot has none
-within : (e : Entry) → Good e → length (e .bytes) + window e ≤ cond (e .held) initialWindow 0 + growthOf e
-within e g = go (e .held) refl
-  where
-    go : (b : Bool) → e .held ≡ b → length (e .bytes) + cond b (e .stream .flow .«receive_window») 0 ≤ cond b initialWindow 0 + growthOf e
-    go true h = omega (arith, g .flows .fits, g .flows .low)
-    go false h = rw (g .free h) (omega arith)
-
--- no more bytes are unread, or open to the remote, than 262,144 for each handle and what was grown
-capacity : (es : List Entry) → ((j : ℕ) → Good (entry es j)) → unreadTotal es + sum window es ≤ heldCount es * initialWindow + sum growthOf es
-capacity es g =
-    omega (
-      arith,
-      sum-le (λ (e : Entry). length (e .bytes) + window e) (λ e. cond (e .held) initialWindow 0 + growthOf e) es vacant (λ j. within (entry es j) (g j)),
-      sum-add (λ (e : Entry). length (e .bytes)) window es,
-      sum-add (λ (e : Entry). cond (e .held) initialWindow 0) growthOf es,
-      sum-each (λ (e : Entry). e .held) initialWindow es,
-    )
-
 -- with n handles at the most, the bytes are within the pool
 no-crowd : (pool limit n m held growth : ℕ) → held ≤ n → growth + m * initialWindow ≤ limit → limit + n * initialWindow ≤ pool + m * initialWindow → pool < held * initialWindow + growth → ⊥
 no-crowd pool limit n m held growth h b p q = omega arith
@@ -212,6 +190,6 @@ module _ (c : Conn) (v : Inv c) (body : List ℕ) where
       no-crowd (c .config .pool) (c .config .limit) n (c .config .«max_num_streams») (heldCount (c .slots) + 1) (c .growth) (o (x .0)) (v .bounded) p
       (omega (arith, over, v .room, v .figure, x .1, capacity (c .slots) (v .good)))
   roomy n opening over (inr (i, held, less)) p h o =
-      let whole : window (entry (c .slots) i) ≡ entry (c .slots) i .stream .flow .«receive_window» = rw held in
+      let whole : openWindow (entry (c .slots) i) ≡ entry (c .slots) i .stream .flow .«receive_window» = rw held in
       no-crowd (c .config .pool) (c .config .limit) n (c .config .«max_num_streams») (heldCount (c .slots)) (c .growth) h (v .bounded) p
-      (omega (arith, over, v .room, v .figure, less, whole, sum-at window (c .slots) i vacant (in-range (c .slots) i held), capacity (c .slots) (v .good)))
+      (omega (arith, over, v .room, v .figure, less, whole, sum-at openWindow (c .slots) i vacant (in-range (c .slots) i held), capacity (c .slots) (v .good)))

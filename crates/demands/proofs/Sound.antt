@@ -3,23 +3,26 @@ use mathlib.Core.Path.{_≡_, refl, sym, ap, _∙_, subst}
 use mathlib.Core.Logic.{_≢_, _⊎_, inl}
 use mathlib.Core.Bool.{Bool, true, false, cond}
 use mathlib.Core.List.{List, [], _++_, map}
-use Prim.Native.Nat.{ℕ, _≤_, _<_}
+use Prim.Native.Nat.{ℕ, _+_, _*_, _≤_, _<_}
 use native.Mathlib.Omega.{arith}
 use native.Mathlib.Nat.{le-refl}
 use lib.ListN.{length, set, drop, length-map}
 use lib.Dec.{eqb}
 use borrow.Author.Tests.{eqb-true, eq-eqb, ne-eqb}
+use Rattle.frame.specs.Header.{initialWindow}
 use Rattle.stream.specs.Streams.{closed, withWaits}
 use Rattle.stream.specs.declared.Stream.{Stream}
 use Rattle.stream.specs.declared.State.the-variants.{Closed}
 use Rattle.rules.specs.declared.Reply.{Reply}
+use Rattle.rules.specs.Lists.{sum}
 use Rattle.rules.specs.Replies.{Outcome, leavesAll, mayGive}
-use Rattle.rules.specs.State.{Entry, Conn, vacant, entry, one, isOwn}
+use Rattle.rules.specs.State.{Entry, Conn, vacant, entry, one, isOwn, unreadTotal}
 use Rattle.rules.specs.Ending.{Result, gives, refuse, end, ended, endEntry}
 use Rattle.rules.specs.Calls.{growthOf}
+use Rattle.demands.specs.Demands.{heldCount}
 use Rattle.demands.specs.History.{Event, nothing, made, accepted, gaveOut, freed, put}
 use Rattle.demands.specs.Theorems.{Bare}
-use Rattle.demands.proofs.Lists.{true-not-false, at-set, getD-map, sum-map, sum-map-none}
+use Rattle.demands.proofs.Lists.{true-not-false, at-set, getD-map, sum-map, sum-map-none, sum-le, sum-add, sum-each}
 use Rattle.demands.proofs.Invariant.{Flows, Good, Inv}
 
 -- ---- bytes
@@ -173,3 +176,28 @@ module _ (c : Conn) (v : Inv c) where
     moved = λ j. rw k (at-end (λ j x. x .bytes ≡ bytesOf (c .slots) j) (c .slots) (λ i. refl) j);
     beside = λ q. true-not-false (sym q) live;
   }
+
+-- ---- room
+
+-- what is open to the remote of a held stream
+abbrev pub openWindow : Entry → ℕ
+openWindow e = cond (e .held) (e .stream .flow .«receive_window») 0
+
+-- a held stream's receive window and unread bytes are within its maximum, a free slot has none
+pub within : (e : Entry) → Good e → openWindow e + length (e .bytes) ≤ cond (e .held) initialWindow 0 + growthOf e
+within e g = go (e .held) refl
+  where
+    go : (b : Bool) → e .held ≡ b → cond b (e .stream .flow .«receive_window») 0 + length (e .bytes) ≤ cond b initialWindow 0 + growthOf e
+    go true h = omega (arith, g .flows .fits, g .flows .low)
+    go false h = rw (g .free h) (omega arith)
+
+-- no more bytes are open to the remote, or unread, than 262,144 for each handle and what was grown
+pub capacity : (es : List Entry) → ((j : ℕ) → Good (entry es j)) → sum openWindow es + unreadTotal es ≤ heldCount es * initialWindow + sum growthOf es
+capacity es g =
+    omega (
+      arith,
+      sum-le (λ (e : Entry). openWindow e + length (e .bytes)) (λ e. cond (e .held) initialWindow 0 + growthOf e) es vacant (λ j. within (entry es j) (g j)),
+      sum-add openWindow (λ (e : Entry). length (e .bytes)) es,
+      sum-add (λ (e : Entry). cond (e .held) initialWindow 0) growthOf es,
+      sum-each (λ (e : Entry). e .held) initialWindow es,
+    )
