@@ -14,11 +14,11 @@ pub mod Answers
 pub mod Bytes
 pub mod Woken
 pub mod Turns
+pub mod Theorems
 pub mod Stale
 pub mod Framed
 pub mod Exact
 pub mod Limits
-pub mod Theorems
 pub mod Progress
 pub mod Pings
 pub mod Marks
