@@ -48,6 +48,7 @@ pub record Acks (a : Acked) (id : StreamId) (place : Place) : Type 0 where
   pub next : a .conn .nextId ≡ a .before .nextId
   pub growth : a .conn .growth ≡ a .before .growth
   pub bytes : (j : ℕ) → bytesOf (a .conn .slots) j ≡ bytesOf (a .before .slots) j
+  pub handles : (j : ℕ) → entry (a .conn .slots) j .held ≡ entry (a .before .slots) j .held
   pub helds : heldCount (a .conn .slots) ≡ heldCount (a .before .slots)
   pub listeds : listedCount (a .conn .slots) ≡ listedCount (a .before .slots)
   pub flows : (j : ℕ) → entry (a .conn .slots) j .stream .flow ≡ entry (a .before .slots) j .stream .flow
@@ -68,6 +69,7 @@ module _ (c : Conn) (v : Inv c) (live : c .ended ≡ false) (id : StreamId) wher
     next = refl;
     growth = refl;
     bytes = λ j. refl;
+    handles = λ j. refl;
     helds = refl;
     listeds = refl;
     flows = λ j. refl;
@@ -105,6 +107,7 @@ module _ (c : Conn) (v : Inv c) (live : c .ended ≡ false) (id : StreamId) wher
     next = refl;
     growth = refl;
     bytes = bytes-same (c .slots) i (known i) (l .0) refl;
+    handles = at-set (λ j e. e .held ≡ entry (c .slots) j .held) (c .slots) i (known i) vacant (l .0) refl (λ j n. refl);
     helds = omega (arith, sum-set (λ (e : Entry). one (e .held)) (c .slots) i (known i) vacant (l .0));
     listeds = omega (arith, sum-set (λ (e : Entry). one (e .listed)) (c .slots) i (known i) vacant (l .0));
     flows = at-set (λ j e. e .stream .flow ≡ entry (c .slots) j .stream .flow) (c .slots) i (known i) vacant (l .0) refl (λ j n. refl);

@@ -27,7 +27,7 @@ use Rattle.rules.specs.Calls.{readEntry, readRest, readWith, windowStep, readRu
 use Rattle.demands.specs.History.{nothing, gaveOut}
 use Rattle.demands.proofs.Lists.{split}
 use Rattle.demands.proofs.Invariant.{Flows, Inv, Stays, held-good, in-range, stays}
-use Rattle.demands.proofs.Sound.{Sound, bytesOf, bytes-put, bytes-same, same-put, refused-plain, done}
+use Rattle.demands.proofs.Sound.{Sound, bytesOf, bytes-put, bytes-same, same-put, refused, done}
 use Rattle.demands.proofs.Windows.{Grows, window}
 
 module _ (c : Conn) (v : Inv c) (i : ℕ) (held : entry (c .slots) i .held ≡ true) where
@@ -78,12 +78,12 @@ module _ (c : Conn) (v : Inv c) (i : ℕ) (held : entry (c .slots) i .held ≡ t
   others x q j h n = getD-set-other (c .slots) i j x vacant (λ e. n (sym e))
 
   abbrev Quiet : Result → Type 0
-  Quiet r = Sound c (λ j. i ≡ j) false nothing r
+  Quiet r = Sound c (λ j. i ≡ j) nothing r
 
   -- ---- read
 
   abbrev ReadOk : Result → Type 0
-  ReadOk r = Sound c (λ j. i ≡ j) false (gaveOut i (r .outcome .bytes)) r
+  ReadOk r = Sound c (λ j. i ≡ j) (gaveOut i (r .outcome .bytes)) r
 
   -- what a window step leaves of the stream
   abbrev Steps : Updated → Type 0
@@ -100,14 +100,14 @@ module _ (c : Conn) (v : Inv c) (i : ℕ) (held : entry (c .slots) i .held ≡ t
   read-done : (u : Updated) → Steps u → (n : ℕ) → n ≤ length (old .bytes) → ReadOk (readRest c i old u n (reading.Done (u .stream)))
   unfolding readRest
   read-done u k n l =
-      done c _ false _ _ _ refl refl refl (read-kept (u .stream) (k .0) n (u .growth) (k .1)) refl (le-refl _) (inr refl)
+      done c _ _ _ _ refl refl (read-kept (u .stream) (k .0) n (u .growth) (k .1)) refl (le-refl _) (inr refl)
       (λ j. rw (length-take-le n (old .bytes) l) (bytes-put (c .slots) i (readEntry old (u .stream) n) (in-range (c .slots) i held) j))
       (others (readEntry old (u .stream) n))
 
   read-wait : (u : Updated) → Steps u → (n : ℕ) → n ≡ 0 → (w : Bool) → ReadOk (readRest c i old u n (reading.Wait (stream.withWaits (u .stream) true w)))
   unfolding readRest
   read-wait u k n z w =
-      done c _ false _ _ _ refl refl refl (read-kept (stream.withWaits (u .stream) true w) (k .0) n (u .growth) (k .1)) refl (le-refl _) (inr refl)
+      done c _ _ _ _ refl refl (read-kept (stream.withWaits (u .stream) true w) (k .0) n (u .growth) (k .1)) refl (le-refl _) (inr refl)
       (λ j. bytes-put (c .slots) i (readEntry old (stream.withWaits (u .stream) true w) n) (in-range (c .slots) i held) j ∙ rw z)
       (others (readEntry old (stream.withWaits (u .stream) true w) n))
 
@@ -124,7 +124,7 @@ module _ (c : Conn) (v : Inv c) (i : ℕ) (held : entry (c .slots) i .held ≡ t
       let n = min asked (length (old .bytes)) in
       let u = windowStep c old now in
       split ReadOk (cond (c .ended) (cond (c .config .«read_after_close») false true) false)
-      (λ e. done c _ false _ _ _ refl refl refl v refl (le-refl _) (inl refl) (λ j. sym (same-put (bytesOf (c .slots)) i j)) (λ q j m n. refl))
+      (λ e. done c _ _ _ _ refl refl v refl (le-refl _) (inl refl) (λ j. sym (same-put (bytesOf (c .slots)) i j)) (λ q j m n. refl))
       (λ e. read-ends u (steps now) n (omega arith) (eqb n 0) (canRead (u .stream .state)) (eqb-true n 0))
 
   -- ---- write and close
@@ -157,7 +157,7 @@ module _ (c : Conn) (v : Inv c) (i : ℕ) (held : entry (c .slots) i .held ≡ t
     write-frame n =
         let like : Like (written-stream n) = (refl, ack-closed (stream.owesAck (old .stream .flag)) (old .stream .state)) in
         let less : old .stream .flow .«send_window» - n ≤ top = omega (arith, v .good i .flows .sends) in
-        done c _ false _ _ _ refl refl refl (stream-kept (written-stream n) like refl refl less) refl (le-refl _) (inl refl) (stream-bytes (written-stream n) like refl refl less)
+        done c _ _ _ _ refl refl (stream-kept (written-stream n) like refl refl less) refl (le-refl _) (inl refl) (stream-bytes (written-stream n) like refl refl less)
         (others (withStream old (written-stream n)))
 
     write-wait : Quiet (writeWith c i old given (written.Wait (stream.withWaits (old .stream) (old .stream .reader) true)))
@@ -165,17 +165,17 @@ module _ (c : Conn) (v : Inv c) (i : ℕ) (held : entry (c .slots) i .held ≡ t
     write-wait =
         let s = stream.withWaits (old .stream) (old .stream .reader) true in
         let like : Like s = (refl, λ e. e) in
-        done c _ false _ _ _ refl refl refl (stream-kept s like refl refl (v .good i .flows .sends)) refl (le-refl _) (inl refl) (stream-bytes s like refl refl (v .good i .flows .sends))
+        done c _ _ _ _ refl refl (stream-kept s like refl refl (v .good i .flows .sends)) refl (le-refl _) (inl refl) (stream-bytes s like refl refl (v .good i .flows .sends))
         (others (withStream old s))
 
     write-closed : Quiet (writeWith c i old given written.Closed)
     unfolding writeWith
-    write-closed = refused-plain c _ false _ v reply.WriteClosed refl (λ j. refl)
+    write-closed = refused c _ _ v reply.WriteClosed (λ j. refl)
 
     pub writes : Quiet (writeRules c i old given)
     unfolding writeRules
     writes =
-        split Quiet (c .ended) (λ e. refused-plain c _ false _ v reply.WriteClosed refl (λ j. refl))
+        split Quiet (c .ended) (λ e. refused c _ _ v reply.WriteClosed (λ j. refl))
         (λ e.
         split (λ w. Quiet (writeWith c i old given w)) (canWrite (old .stream .state))
         (λ a.
@@ -202,5 +202,5 @@ module _ (c : Conn) (v : Inv c) (i : ℕ) (held : entry (c .slots) i .held ≡ t
       let m : s .flow .«max_receive_window» ≡ old .stream .flow .«max_receive_window» = rw (k .1) in
       let r : s .flow .«receive_window» ≡ old .stream .flow .«receive_window» = rw (k .1) in
       let t : s .flow .«send_window» ≤ top = rw (k .1) (v .good i .flows .sends) in
-      done c _ false _ _ _ refl refl refl (stream-kept s (k .0) m r t) refl (le-refl _) (inl refl) (stream-bytes s (k .0) m r t)
+      done c _ _ _ _ refl refl (stream-kept s (k .0) m r t) refl (le-refl _) (inl refl) (stream-bytes s (k .0) m r t)
       (others (withStream old s))

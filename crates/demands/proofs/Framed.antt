@@ -50,7 +50,7 @@ framed c now head body h t d e n m live =
     rw (d, timely c now _ m, alive c _ live, e, eq-eqb (length body) (bodyLength t (h .length .0)) n)
 
 -- what holds after any ACK step, of the state before it, holds after this one
-acked-as :
+pub acked-as :
     (c : Conn) → Inv c → c .ended ≡ false → (h : Header) (place : Place) → Located (c .slots) (h .«stream_id») place → (P : Conn → Acked → Type 0) →
     ((a : Acked) → Acks a (h .«stream_id») place → P (a .before) a) → P c (ackStep c h place)
 acked-as c v live h place l P f =
@@ -123,11 +123,12 @@ not-free : (b : Bool) → cond b false true ≡ false → b ≡ true
 not-free true e = refl
 not-free false e = true-not-false refl e
 
--- with a slot left not all are held
+-- with no slot free all are held
+pub all-held : (es : List Entry) → Says isFree es vacant nowhere → heldCount es ≡ length es
+all-held es f = sum-full (λ (e : Entry). e .held) es vacant (λ j l. not-free (entry es j .held) (f j l))
+
 pub some-free : (es : List Entry) → heldCount es < length es → Says isFree es vacant nowhere → ⊥
-some-free es s f =
-    let full = sum-full (λ (e : Entry). e .held) es vacant (λ j l. not-free (entry es j .held) (f j l)) in
-    omega (arith, s, full)
+some-free es s f = omega (arith, s, all-held es f)
 
 module _ (id : StreamId) (body : List ℕ) (a : Acked) (k : Acks a id nowhere) (y : Ready (a .before) id body) where
   made-at : (s : Stream) (q : Place) → Says isFree (a .conn .slots) vacant q → lowestFree (a .before .slots) ≡ q → Makes (a .before) s body (makeAt q a s body)
@@ -155,6 +156,31 @@ unknown : (p : Place) → not (isKnown p) ≡ true → p ≡ nowhere
 unknown (at i) e = true-not-false e refl
 unknown nowhere e = refl
 
+-- the tests that a frame passes which is admitted
+pub record Admitted (c : Conn) (h : Header) (last : Bool) : Type 0 where
+  pub unreset : contains (h .flags) rst ≡ false
+  pub syns : contains (h .flags) syn ≡ true
+  pub remote : isRemote (c .config .mode) (h .«stream_id») ≡ true
+  pub new : find (c .slots) (h .«stream_id») ≡ nowhere
+  pub few : listedCount (c .slots) < c .config .«max_num_streams»
+  pub passed : last ≡ true
+
+pub admitted-by : (c : Conn) (h : Header) (last : Bool) → admits c h last ≡ true → Admitted c h last
+admitted-by c h last o =
+    let resets = both _ _ o in
+    let syns = both _ _ (resets .1) in
+    let remotes = both _ _ (syns .1) in
+    let unknowns = both _ _ (remotes .1) in
+    let fews = both _ _ (unknowns .1) in
+    record {
+      unreset = not-true (contains (h .flags) rst) (resets .0);
+      syns = syns .0;
+      remote = remotes .0;
+      new = unknown (find (c .slots) (h .«stream_id»)) (unknowns .0);
+      few = ltb-true (listedCount (c .slots)) (c .config .«max_num_streams») (fews .0);
+      passed = fews .1;
+    }
+
 -- a frame that is admitted makes what its rules R make after any ACK step
 pub opened :
     (c : Conn) → Inv c → c .ended ≡ false → (h : Header) (body : List ℕ) (last : Bool) → admits c h last ≡ true →
@@ -164,14 +190,8 @@ pub opened :
     let place = find (c .slots) (h .«stream_id») in
     Makes c s body (R (ackStep c h place) place)
 opened c v live h body last o p left s R f =
-    let syns = both _ _ o in
-    let resets = both _ _ (syns .1) in
-    let remotes = both _ _ (resets .1) in
-    let unknowns = both _ _ (remotes .1) in
-    let fews = both _ _ (unknowns .1) in
-    let place = unknown (find (c .slots) (h .«stream_id»)) (unknowns .0) in
-    let l : Located (c .slots) (h .«stream_id») nowhere = subst (Located (c .slots) (h .«stream_id»)) place (first-says _ (c .slots) vacant) in
-    let y : Ready c (h .«stream_id») body = record { remote = remotes .0; few = ltb-true (listedCount (c .slots)) (c .config .«max_num_streams») (fews .0); fits = p; left = left } in
-    subst (λ (q : Place). Makes c s body (R (ackStep c h q) q)) (sym place)
-    (acked-as c v live h nowhere l (λ d a. Ready d (h .«stream_id») body → Makes d s body (R a nowhere))
-    (f (syns .0) (not-true (contains (h .flags) rst) (resets .0)) (fews .1)) y)
+    let t = admitted-by c h last o in
+    let l : Located (c .slots) (h .«stream_id») nowhere = subst (Located (c .slots) (h .«stream_id»)) (t .new) (first-says _ (c .slots) vacant) in
+    let y : Ready c (h .«stream_id») body = record { remote = t .remote; few = t .few; fits = p; left = left } in
+    subst (λ (q : Place). Makes c s body (R (ackStep c h q) q)) (sym (t .new))
+    (acked-as c v live h nowhere l (λ d a. Ready d (h .«stream_id») body → Makes d s body (R a nowhere)) (f (t .syns) (t .unreset) (t .passed)) y)

@@ -28,7 +28,7 @@ use Rattle.rules.proofs.Lists.{Says, first-says, sum-at}
 use Rattle.demands.specs.History.{nothing, freed, tells, isDone, put}
 use Rattle.demands.proofs.Lists.{split, true-not-false, at-set}
 use Rattle.demands.proofs.Invariant.{Inv, Kept, Fit, Stays, idAt, vacant-good, held-good, in-range, replaced, stays}
-use Rattle.demands.proofs.Sound.{Sound, Beside, moves, bytesOf, put-same, put-other, bytes-put, bytes-same, refused-plain, done, ends}
+use Rattle.demands.proofs.Sound.{Sound, Beside, moves, bytesOf, put-same, put-other, bytes-put, bytes-same, refused, done, ends}
 use Rattle.demands.proofs.Acks.{Located, is-listed}
 use Rattle.demands.proofs.Opening.{free-held}
 
@@ -64,27 +64,27 @@ module _ (c : Conn) (v : Inv c) (live : c .ended ≡ false) (now : ℕ) where
   }
 
   abbrev OpenOk : Result → Type 0
-  OpenOk r = Sound c (λ j. ⊥) false (cond (isDone (r .outcome .reply)) (tells (r .outcome .slot) (r .outcome .value) [] nothing) nothing) r
+  OpenOk r = Sound c (λ j. ⊥) (cond (isDone (r .outcome .reply)) (tells (r .outcome .slot) (r .outcome .value) [] nothing) nothing) r
 
   opens-at : (p : Place) → Says isFree (c .slots) vacant p → listedCount (c .slots) < c .config .«max_num_streams» → c .nextId + 2 ≤ top → OpenOk (openAt p c now)
   unfolding openAt
-  opens-at nowhere f m t = refused-plain c _ false _ v reply.NoSlot refl (λ j. refl)
+  opens-at nowhere f m t = refused c _ _ v reply.NoSlot (λ j. refl)
   opens-at (at i) f m t =
       let free = v .good i .free (free-held (entry (c .slots) i .held) (f .1)) in
-      done c _ false _ _ _ refl refl refl (replaced c v i (f .0) opened (c .growth) (c .nextId + 2) (open-fit i free m t)) refl (omega arith) (inl refl) (bytes-put (c .slots) i opened (f .0))
+      done c _ _ _ _ refl refl (replaced c v i (f .0) opened (c .growth) (c .nextId + 2) (open-fit i free m t)) refl (omega arith) (inl refl) (bytes-put (c .slots) i opened (f .0))
       (λ q j h n. getD-set-other (c .slots) i j opened vacant (λ e. true-not-false h (ap (λ (m : ℕ). entry (c .slots) m .held) e ∙ ap (λ (x : Entry). x .held) free)))
 
   pub opens-stream : OpenOk (open-rules c now)
   unfolding open-rules
   opens-stream =
       split OpenOk (leb (c .config .«max_num_streams») (listedCount (c .slots)))
-      (λ m. ends c v live _ false _ reply.TooManyStreams refl refl refl)
+      (λ m. ends c v live _ _ reply.TooManyStreams refl refl)
       (λ m.
       split OpenOk (leb 256 (unacknowledged (c .config .mode) (c .slots)))
-      (λ u. done c _ false _ _ _ refl refl refl v refl (le-refl _) (inl refl) (λ j. refl) (λ q j m n. refl))
+      (λ u. done c _ _ _ _ refl refl v refl (le-refl _) (inl refl) (λ j. refl) (λ q j m n. refl))
       (λ u.
       split OpenOk (ltb top (c .nextId + 2))
-      (λ t. ends c v live _ false _ reply.NoMoreStreamIds refl refl refl)
+      (λ t. ends c v live _ _ reply.NoMoreStreamIds refl refl)
       (λ t. opens-at (lowestFree (c .slots)) (first-says isFree (c .slots) vacant) (leb-false _ _ m) (ltb-false top (c .nextId + 2) t))))
 
 -- ---- drop
@@ -156,15 +156,15 @@ module _ (c : Conn) (v : Inv c) (i : ℕ) (held : entry (c .slots) i .held ≡ t
         (λ k ne. bytes-same (c .slots) j (removedEntry other) (l .0) refl k ∙ sym (put-other i [] (bytesOf (c .slots)) k ne))
 
   abbrev DropOk : Place → Result → Type 0
-  DropOk p r = Sound c (λ j. (i ≡ j) ⊎ (p ≡ at j)) false (cond (isDone (r .outcome .reply)) (freed i) nothing) r
+  DropOk p r = Sound c (λ j. (i ≡ j) ⊎ (p ≡ at j)) (cond (isDone (r .outcome .reply)) (freed i) nothing) r
 
   drops-at : (p : Place) → Located (c .slots) (dropping .stream .id) p → DropOk p (dropAt p (Rattle.rules.specs.State.withGrowth c (c .growth - growthOf dropping)) i)
   unfolding dropAt
   drops-at nowhere l =
-      done c _ false _ _ _ refl refl refl (freed-kept c v i held) refl (le-refl _) (inr refl) (bytes-put (c .slots) i vacant (in-range (c .slots) i held))
+      done c _ _ _ _ refl refl (freed-kept c v i held) refl (le-refl _) (inr refl) (bytes-put (c .slots) i vacant (in-range (c .slots) i held))
       (λ q j h n. getD-set-other (c .slots) i j vacant vacant (λ e. n (inl (sym e))))
   drops-at (at j) l =
-      done c _ false _ _ _ refl refl refl (drop-kept j l) refl (le-refl _) (inr refl) (drop-bytes j l)
+      done c _ _ _ _ refl refl (drop-kept j l) refl (le-refl _) (inr refl) (drop-bytes j l)
       (λ q k h n.
       getD-set-other (without j l) i k vacant vacant (λ e. n (inl (sym e)))
       ∙ getD-set-other (c .slots) j k (removedEntry (other j l)) vacant (λ e. n (inr (ap at (sym e)))))
@@ -176,11 +176,11 @@ module _ (c : Conn) (v : Inv c) (i : ℕ) (held : entry (c .slots) i .held ≡ t
 -- ---- tick
 
 module _ (c : Conn) (v : Inv c) where
-  pings-out : (p : NextPing) (d : Conn) → Inv d → d .config ≡ c .config → c .nextId ≤ d .nextId → (d .growth ≡ c .growth) ⊎ (moves nothing ≡ true) → ((j : ℕ) → bytesOf (d .slots) j ≡ bytesOf (c .slots) j) → Beside c (λ j. ⊥) d → Sound c (λ j. ⊥) false nothing (pingOut p d)
+  pings-out : (p : NextPing) (d : Conn) → Inv d → d .config ≡ c .config → c .nextId ≤ d .nextId → (d .growth ≡ c .growth) ⊎ (moves nothing ≡ true) → ((j : ℕ) → bytesOf (d .slots) j ≡ bytesOf (c .slots) j) → Beside c (λ j. ⊥) d → Sound c (λ j. ⊥) nothing (pingOut p d)
   unfolding pingOut
-  pings-out ask.None d w k n g b s = done c _ false _ _ _ refl refl refl w k n g b s
-  pings-out (ask.Ping h) d w k n g b s = done c _ false _ _ _ refl refl refl w k n g b s
+  pings-out ask.None d w k n g b s = done c _ _ _ _ refl refl w k n g b s
+  pings-out (ask.Ping h) d w k n g b s = done c _ _ _ _ refl refl w k n g b s
 
-  pub ticks : (now : ℕ) → Sound c (λ j. ⊥) false nothing (tickRules c now)
+  pub ticks : (now : ℕ) → Sound c (λ j. ⊥) nothing (tickRules c now)
   unfolding tickRules
   ticks now = pings-out (nextPing (c .pings) now .ping) (withPings c (nextPing (c .pings) now .rtt)) v refl (le-refl _) (inl refl) (λ j. refl) (λ q j h n. refl)

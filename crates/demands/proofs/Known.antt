@@ -29,14 +29,13 @@ use Rattle.rules.specs.declared.Which.{Which}
 use Rattle.rules.specs.declared.Which.the-variants as which
 use Rattle.rules.specs.declared.Value.the-variants as value
 use Rattle.rules.specs.Lists.{Place, at, nowhere}
-use Rattle.rules.specs.State.{Entry, vacant, entry, one, room, withSlot}
+use Rattle.rules.specs.State.{Entry, vacant, entry, room, withSlot}
 use Rattle.rules.specs.Ending.{Result}
 use Rattle.rules.specs.Frames.{Acked, noAction, goAway, onReset, resetEntry, takenEntry, takeAt, knownData, knownUpdate}
-use Rattle.rules.proofs.Lists.{sum-set}
 use Rattle.demands.specs.History.{Event, nothing, tells, brought, byTag, put}
 use Rattle.demands.proofs.Lists.{split, true-not-false}
 use Rattle.demands.proofs.Invariant.{Flows, Good, Stays, held-good, stays}
-use Rattle.demands.proofs.Sound.{Sound, Beside, Crowded, bytesOf, left, bytes-put, bytes-same, same-put, refused, done, crowds}
+use Rattle.demands.proofs.Sound.{Sound, Beside, bytesOf, left, bytes-put, bytes-same, same-put, refused, done}
 use Rattle.demands.proofs.Acks.{Acks, is-listed}
 
 -- ---- small laws
@@ -64,17 +63,17 @@ flows-more f n k h g = record { low = g .low; high = g .high; fits = omega (arit
 
 -- ---- the rules
 
-module _ (h : Header) (body : List ℕ) (a : Acked) (opening : Bool) where
+module _ (h : Header) (body : List ℕ) (a : Acked) where
   abbrev pub Ok : Place → Tag → Result → Type 0
-  Ok place t r = Sound (a .before) (λ j. place ≡ at j) opening (byTag t h body place (r .outcome)) r
+  Ok place t r = Sound (a .before) (λ j. place ≡ at j) (byTag t h body place (r .outcome)) r
 
   pub idle : (place : Place) → Acks a (h .«stream_id») place → (t : Tag) → brought t h body place ≡ nothing → Ok place t (noAction a)
   idle place k t e =
-      done (a .before) _ opening _ _ (a .conn) refl refl refl (k .inv) (k .config) (le-of-eq (sym (k .next))) (inl (k .growth)) (λ j. rw e (k .bytes j)) (λ q j h. k .beside j)
+      done (a .before) _ _ _ (a .conn) refl refl (k .inv) (k .config) (le-of-eq (sym (k .next))) (inl (k .growth)) (λ j. rw e (k .bytes j)) (λ q j h. k .beside j)
 
   pub away : (place : Place) → Acks a (h .«stream_id») place → (t : Tag) (code : ℕ) → Ok place t (goAway a code)
   away place k t code =
-      done (a .before) _ opening _ _ (a .conn) refl refl refl (k .inv) (k .config) (le-of-eq (sym (k .next))) (inl (k .growth)) (k .bytes) (λ q j h. k .beside j)
+      done (a .before) _ _ _ (a .conn) refl refl (k .inv) (k .config) (le-of-eq (sym (k .next))) (inl (k .growth)) (k .bytes) (λ q j h. k .beside j)
 
   -- a slot that was found is the only one to change
   set-beside : (i : ℕ) (x : Entry) → Acks a (h .«stream_id») (at i) → Beside (a .before) (λ j. at i ≡ at j) (withSlot (a .conn) i x)
@@ -101,7 +100,7 @@ module _ (h : Header) (body : List ℕ) (a : Acked) (opening : Bool) where
   resets nowhere k t e = idle nowhere k t e
   resets (at i) k t e =
       let x = entry (a .conn .slots) i in
-      done (a .before) _ opening _ _ _ refl refl refl (stays (a .conn) (k .inv) i (resetEntry x) (a .conn .growth) (reset-stays i k)) (k .config) (le-of-eq (sym (k .next))) (inl (k .growth))
+      done (a .before) _ _ _ _ refl refl (stays (a .conn) (k .inv) i (resetEntry x) (a .conn .growth) (reset-stays i k)) (k .config) (le-of-eq (sym (k .next))) (inl (k .growth))
       (λ j. rw (tells-none _ body (brought t h body (at i)), e) (bytes-same (a .conn .slots) i (resetEntry x) (k .located .0) refl j ∙ k .bytes j))
       (set-beside i (resetEntry x) k)
 
@@ -138,12 +137,6 @@ module _ (h : Header) (body : List ℕ) (a : Acked) (opening : Bool) where
       room = rw (length-append (old .bytes) more) (omega (arith, k .inv .room, ltb-false (room (a .conn)) (length more) r));
     }
 
-    taken-crowds : Takes → ltb (room (a .conn)) (length more) ≡ true → Crowded (a .before) opening
-    taken-crowds t r =
-        let p = crowds (a .conn) (k .inv) i (k .located .0) taken (taken-good t) (rw (t .1)) (length more) (length-append (old .bytes) more) r in
-        let q = sum-set (λ (e : Entry). one (e .held)) (a .conn .slots) i taken vacant (k .located .0) in
-        inl (rw (← k .config, ← k .growth, ← k .helds) (omega (arith, p, q)))
-
     takes :
         (t : Tag) (w : Wakes) → Takes →
         ((j : ℕ) → put i (old .bytes ++ more) (bytesOf (a .conn .slots)) j ≡ left (brought t h body (at i)) (bytesOf (a .before .slots)) j) →
@@ -151,9 +144,9 @@ module _ (h : Header) (body : List ℕ) (a : Acked) (opening : Bool) where
     unfolding takeAt
     takes t w f b =
         split (Ok (at i) t) (ltb (room (a .conn)) (length more))
-        (λ r. refused (a .before) _ opening _ (k .before) reply.NoRoom (λ q. taken-crowds f r) (λ j. refl))
+        (λ r. refused (a .before) _ _ (k .before) reply.NoRoom (λ j. refl))
         (λ r.
-        done (a .before) _ opening _ _ _ refl refl refl (stays (a .conn) (k .inv) i taken (a .conn .growth) (taken-stays f r)) (k .config) (le-of-eq (sym (k .next))) (inl (k .growth))
+        done (a .before) _ _ _ _ refl refl (stays (a .conn) (k .inv) i taken (a .conn .growth) (taken-stays f r)) (k .config) (le-of-eq (sym (k .next))) (inl (k .growth))
         (λ j. rw (tells-none _ body (brought t h body (at i))) (bytes-put (a .conn .slots) i taken (k .located .0) j ∙ b j))
         (set-beside i taken k))
 

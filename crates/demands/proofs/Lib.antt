@@ -20,6 +20,8 @@ pub mod LedgerFrames
 pub mod LedgerTheorems
 pub mod Stale
 pub mod Framed
+pub mod Exact
+pub mod Limits
 pub mod Progress
 pub mod Pings
 pub mod Marks

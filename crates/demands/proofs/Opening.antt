@@ -1,16 +1,16 @@
 -- A frame that makes a stream keeps the invariant. Assumes nothing.
 use mathlib.Core.Path.{_≡_, refl, sym, ap, _∙_}
-use mathlib.Core.Logic.{inl, inr}
+use mathlib.Core.Logic.{inl}
 use mathlib.Core.Bool.{Bool, true, false, cond}
 use mathlib.Core.List.{List}
-use Prim.Native.Nat.{ℕ, _%_, _≤_, _<_}
+use Prim.Native.Nat.{ℕ, _%_, _<_}
 use native.Mathlib.Omega.{arith}
 use native.Mathlib.Nat.{le-refl, le-of-eq}
 use lib.ListN.{length}
 use lib.Seq.{getD-set-other}
 use lib.Dec.{ltb, leb}
 use borrow.Author.Tests.{eqb-true, leb-false, ltb-false, eq-eqb}
-use Rattle.frame.specs.Header.{contains, syn, rst, initialWindow, protocolError}
+use Rattle.frame.specs.Header.{initialWindow, protocolError}
 use Rattle.frame.specs.declared.header.Header.{Header}
 use Rattle.frame.specs.declared.header.StreamId.{StreamId}
 use Rattle.frame.specs.declared.header.Tag.{Tag}
@@ -19,14 +19,14 @@ use Rattle.rules.specs.declared.Reply.the-variants as reply
 use Rattle.rules.specs.declared.Mode.{Mode}
 use Rattle.rules.specs.declared.Mode.the-variants.{Client, Server}
 use Rattle.rules.specs.Lists.{Place, at, nowhere}
-use Rattle.rules.specs.State.{Entry, vacant, entry, one, isFree, isOwn, isRemote, hasId, lowestFree, listedCount, room, withSlot}
+use Rattle.rules.specs.State.{Entry, vacant, entry, isFree, isOwn, isRemote, hasId, lowestFree, listedCount, room, withSlot}
 use Rattle.rules.specs.Ending.{Result}
 use Rattle.rules.specs.Frames.{Acked, newEntry, makeAt, make, synRules}
 use Rattle.rules.specs.Calls.{growthOf}
-use Rattle.rules.proofs.Lists.{Says, first-says, sum-set}
-use Rattle.demands.proofs.Lists.{split, true-not-false, sum-spare}
+use Rattle.rules.proofs.Lists.{Says, first-says}
+use Rattle.demands.proofs.Lists.{split, true-not-false}
 use Rattle.demands.proofs.Invariant.{Flows, Good, Fit, idAt, held-good, in-range, replaced}
-use Rattle.demands.proofs.Sound.{Beside, Crowded, bytes-put, refused, refused-plain, done, crowds}
+use Rattle.demands.proofs.Sound.{Beside, bytes-put, refused, done}
 use Rattle.demands.proofs.Acks.{Acks}
 use Rattle.demands.proofs.Known.{Ok, away}
 
@@ -42,10 +42,10 @@ free-held false e = refl
 
 -- ---- a new stream
 
-module _ (h : Header) (body : List ℕ) (a : Acked) (opening : Bool) where
+module _ (h : Header) (body : List ℕ) (a : Acked) where
   module _ (k : Acks a (h .«stream_id») nowhere) (s : Stream) (same : s .id ≡ h .«stream_id») (fresh : s .flow .«max_receive_window» ≡ initialWindow)
       (flows : Flows (s .flow) (length body)) (remote : isRemote (a .conn .config .mode) (h .«stream_id») ≡ true)
-      (spare : listedCount (a .conn .slots) < a .conn .config .«max_num_streams») (opened : ltb (room (a .conn)) (length body) ≡ true → opening ≡ true) where
+      (spare : listedCount (a .conn .slots) < a .conn .config .«max_num_streams») where
     abbrev fresher : Entry
     fresher = newEntry s body
 
@@ -79,59 +79,40 @@ module _ (h : Header) (body : List ℕ) (a : Acked) (opening : Bool) where
         quiet = λ t. true-not-false t (k .live);
       }
 
-      unheld : entry (a .conn .slots) i .held ≡ false
-      unheld = rw free
-
-      fresh-crowds : ltb (room (a .conn)) (length body) ≡ true → Crowded (a .before) opening
-      fresh-crowds r =
-          let none : length (entry (a .conn .slots) i .bytes) ≡ 0 = rw free in
-          let p = crowds (a .conn) (k .inv) i l fresher fresh-good (rw (free, fresh-growth)) (length body) (omega (arith, none)) r in
-          let q = sum-set (λ (e : Entry). one (e .held)) (a .conn .slots) i fresher vacant l in
-          let u : one (entry (a .conn .slots) i .held) ≡ 0 = rw unheld in
-          let m = sum-spare (λ (e : Entry). e .held) (a .conn .slots) i vacant l unheld in
-          let z : a .conn .config .slots ≡ a .before .config .slots = rw (k .config) in
-          inr (opened r, omega (arith, m, k .helds, k .inv .size, k .before .size, z), rw (← k .config, ← k .growth, ← k .helds) (omega (arith, p, q, u)))
-
     -- the slot that is taken is free, so no held one changes
     fresh-beside : (i : ℕ) → entry (a .conn .slots) i ≡ vacant → Beside (a .before) (λ j. nowhere ≡ at j) (withSlot (a .conn) i fresher)
     fresh-beside i free q j held n =
         let same = k .beside j n in
         getD-set-other (a .conn .slots) i j fresher vacant (λ e. true-not-false held (ap (λ (x : Entry). x .held) (sym same ∙ ap (λ (m : ℕ). entry (a .conn .slots) m) e ∙ free))) ∙ same
 
-    makes-at : (t : Tag) (p : Place) → Says isFree (a .conn .slots) vacant p → Ok h body a opening nowhere t (makeAt p a s body)
+    makes-at : (t : Tag) (p : Place) → Says isFree (a .conn .slots) vacant p → Ok h body a nowhere t (makeAt p a s body)
     unfolding makeAt
-    makes-at t nowhere f = refused-plain (a .before) _ opening _ (k .before) reply.NoSlot refl (λ j. refl)
+    makes-at t nowhere f = refused (a .before) _ _ (k .before) reply.NoSlot (λ j. refl)
     makes-at t (at i) f =
         let free = k .inv .good i .free (free-held (entry (a .conn .slots) i .held) (f .1)) in
-        split (Ok h body a opening nowhere t) (ltb (room (a .conn)) (length body))
-        (λ r. refused (a .before) _ opening _ (k .before) reply.NoRoom (λ q. fresh-crowds i (f .0) free r) (λ j. refl))
+        split (Ok h body a nowhere t) (ltb (room (a .conn)) (length body))
+        (λ r. refused (a .before) _ _ (k .before) reply.NoRoom (λ j. refl))
         (λ r.
-        done (a .before) _ opening _ _ _ refl refl refl (replaced (a .conn) (k .inv) i (f .0) fresher (a .conn .growth) (a .conn .nextId) (fresh-fit i (f .0) free r)) (k .config) (le-of-eq (sym (k .next))) (inl (k .growth))
+        done (a .before) _ _ _ _ refl refl (replaced (a .conn) (k .inv) i (f .0) fresher (a .conn .growth) (a .conn .nextId) (fresh-fit i (f .0) free r)) (k .config) (le-of-eq (sym (k .next))) (inl (k .growth))
         (λ j. bytes-put (a .conn .slots) i fresher (f .0) j ∙ rw (k .bytes j))
         (fresh-beside i free))
 
-    pub makes : (t : Tag) → Ok h body a opening nowhere t (make a s body)
+    pub makes : (t : Tag) → Ok h body a nowhere t (make a s body)
     unfolding make
     makes t = makes-at t (lowestFree (a .conn .slots)) (first-says isFree (a .conn .slots) vacant)
 
   -- the tests of a SYN
   pub syns :
       (t : Tag) (place : Place) → Acks a (h .«stream_id») place → (full : ℕ) (next : Result) →
-      (place ≡ nowhere → isRemote (a .conn .config .mode) (h .«stream_id») ≡ true → listedCount (a .conn .slots) < a .conn .config .«max_num_streams» → Ok h body a opening place t next) →
-      Ok h body a opening place t (synRules a (h .«stream_id») place full next)
+      (place ≡ nowhere → isRemote (a .conn .config .mode) (h .«stream_id») ≡ true → listedCount (a .conn .slots) < a .conn .config .«max_num_streams» → Ok h body a place t next) →
+      Ok h body a place t (synRules a (h .«stream_id») place full next)
   unfolding synRules
   syns t (at i) k full next f =
-      split (Ok h body a opening (at i) t) (isRemote (a .conn .config .mode) (h .«stream_id»)) (λ r. away h body a opening (at i) k t protocolError) (λ r. away h body a opening (at i) k t protocolError)
+      split (Ok h body a (at i) t) (isRemote (a .conn .config .mode) (h .«stream_id»)) (λ r. away h body a (at i) k t protocolError) (λ r. away h body a (at i) k t protocolError)
   syns t nowhere k full next f =
-      split (Ok h body a opening nowhere t) (isRemote (a .conn .config .mode) (h .«stream_id»))
+      split (Ok h body a nowhere t) (isRemote (a .conn .config .mode) (h .«stream_id»))
       (λ r.
-      split (Ok h body a opening nowhere t) (leb (a .conn .config .«max_num_streams») (listedCount (a .conn .slots)))
-      (λ m. away h body a opening nowhere k t full)
+      split (Ok h body a nowhere t) (leb (a .conn .config .«max_num_streams») (listedCount (a .conn .slots)))
+      (λ m. away h body a nowhere k t full)
       (λ m. f refl r (leb-false _ _ m)))
-      (λ r. away h body a opening nowhere k t protocolError)
-
-  -- that the frame would open a stream, where it does
-  abbrev pub Opening : Place → Type 0
-  Opening place =
-      contains (h .flags) syn ≡ true → contains (h .flags) rst ≡ false → isRemote (a .conn .config .mode) (h .«stream_id») ≡ true → place ≡ nowhere →
-      listedCount (a .conn .slots) < a .conn .config .«max_num_streams» → length body ≤ initialWindow → opening ≡ true
+      (λ r. away h body a nowhere k t protocolError)

@@ -7,20 +7,18 @@ use Prim.Native.Nat.{ℕ, _+_, _*_, _≤_, _<_}
 use native.Mathlib.Omega.{arith}
 use native.Mathlib.Nat.{le-refl}
 use lib.ListN.{length, set, drop, length-map}
-use lib.Dec.{ltb, eqb}
-use borrow.Author.Tests.{eqb-true, eq-eqb, ne-eqb, ltb-true}
+use lib.Dec.{eqb}
+use borrow.Author.Tests.{eqb-true, eq-eqb, ne-eqb}
 use Rattle.frame.specs.Header.{initialWindow}
 use Rattle.stream.specs.Streams.{closed, withWaits}
 use Rattle.stream.specs.declared.Stream.{Stream}
 use Rattle.stream.specs.declared.State.the-variants.{Closed}
 use Rattle.rules.specs.declared.Reply.{Reply}
-use Rattle.rules.specs.declared.Reply.the-variants as reply
 use Rattle.rules.specs.Lists.{sum}
 use Rattle.rules.specs.Replies.{Outcome, leavesAll, mayGive}
-use Rattle.rules.specs.State.{Entry, Conn, vacant, entry, one, isOwn, room, unreadTotal}
+use Rattle.rules.specs.State.{Entry, Conn, vacant, entry, one, isOwn, unreadTotal}
 use Rattle.rules.specs.Ending.{Result, gives, refuse, end, ended, endEntry}
 use Rattle.rules.specs.Calls.{growthOf}
-use Rattle.rules.proofs.Lists.{sum-set}
 use Rattle.demands.specs.Demands.{heldCount}
 use Rattle.demands.specs.History.{Event, nothing, made, accepted, gaveOut, freed, put}
 use Rattle.demands.specs.Theorems.{Bare}
@@ -74,17 +72,11 @@ moves (freed i) = true
 
 -- ---- what is shown of a call on c that gives and leaves r, the event being e
 
--- too many bytes for the pool: for the handles held, or for them and one that is opened
-abbrev pub Crowded : Conn → Bool → Type 0
-Crowded c opening =
-    (c .config .pool < heldCount (c .slots) * initialWindow + c .growth)
-    ⊎ ((opening ≡ true) × (heldCount (c .slots) < length (c .slots)) × (c .config .pool < (heldCount (c .slots) + 1) * initialWindow + c .growth))
-
 -- unless the call ends the connection, a held slot that it is not about stays as it is
 abbrev pub Beside : Conn → (ℕ → Type 0) → Conn → Type 0
 Beside c about d = d .ended ≡ c .ended → (j : ℕ) → entry (c .slots) j .held ≡ true → (about j → ⊥) → entry (d .slots) j ≡ entry (c .slots) j
 
-pub record Sound (c : Conn) (about : ℕ → Type 0) (opening : Bool) (e : Event) (r : Result) : Type 0 where
+pub record Sound (c : Conn) (about : ℕ → Type 0) (e : Event) (r : Result) : Type 0 where
   pub inv : Inv (r .after)
   pub config : r .after .config ≡ c .config
   pub next : c .nextId ≤ r .after .nextId
@@ -92,32 +84,11 @@ pub record Sound (c : Conn) (about : ℕ → Type 0) (opening : Bool) (e : Event
   pub silent : mayGive (r .outcome .reply) ≡ false → Bare (r .outcome)
   pub figure : (r .after .growth ≡ c .growth) ⊎ (moves e ≡ true)
   pub moved : (j : ℕ) → bytesOf (r .after .slots) j ≡ left e (bytesOf (c .slots)) j
-  pub crowded : r .outcome .reply ≡ reply.NoRoom → Crowded c opening
   pub beside : Beside c about (r .after)
 
-abbrev pub isNoRoom : Reply → Bool
-isNoRoom reply.Done = false
-isNoRoom reply.Wait = false
-isNoRoom reply.GoAway = false
-isNoRoom reply.TooManyStreams = false
-isNoRoom reply.NoMoreStreamIds = false
-isNoRoom reply.Closed = false
-isNoRoom reply.WriteClosed = false
-isNoRoom reply.NoSlot = false
-isNoRoom reply.NoRoom = true
-isNoRoom reply.NotHeld = false
-isNoRoom reply.Time = false
-isNoRoom reply.Version = false
-isNoRoom reply.Type = false
-isNoRoom reply.Body = false
-isNoRoom reply.Size = false
-
-not-room : {P : Type 0} (r : Reply) → isNoRoom r ≡ false → r ≡ reply.NoRoom → P
-not-room r n e = true-not-false (ap isNoRoom e) n
-
-module _ (c : Conn) (about : ℕ → Type 0) (opening : Bool) (e : Event) where
-  pub refused : Inv c → (r : Reply) → (r ≡ reply.NoRoom → Crowded c opening) → ((j : ℕ) → bytesOf (c .slots) j ≡ left e (bytesOf (c .slots)) j) → Sound c about opening e (refuse c r)
-  refused v r k b = record {
+module _ (c : Conn) (about : ℕ → Type 0) (e : Event) where
+  pub refused : Inv c → (r : Reply) → ((j : ℕ) → bytesOf (c .slots) j ≡ left e (bytesOf (c .slots)) j) → Sound c about e (refuse c r)
+  refused v r b = record {
     inv = v;
     config = refl;
     next = le-refl _;
@@ -125,18 +96,14 @@ module _ (c : Conn) (about : ℕ → Type 0) (opening : Bool) (e : Event) where
     silent = λ t. (refl, refl, refl, refl, refl);
     figure = inl refl;
     moved = b;
-    crowded = k;
     beside = λ q j h n. refl;
   }
 
-  pub refused-plain : Inv c → (r : Reply) → isNoRoom r ≡ false → ((j : ℕ) → bytesOf (c .slots) j ≡ left e (bytesOf (c .slots)) j) → Sound c about opening e (refuse c r)
-  refused-plain v r n b = refused v r (λ q. not-room r n q) b
-
   -- an answer with reply 0, 1 or 2
   pub done :
-      (o : Outcome) (d : Conn) → mayGive (o .reply) ≡ true → leavesAll (o .reply) ≡ false → isNoRoom (o .reply) ≡ false → Inv d → d .config ≡ c .config → c .nextId ≤ d .nextId → (d .growth ≡ c .growth) ⊎ (moves e ≡ true) →
-      ((j : ℕ) → bytesOf (d .slots) j ≡ left e (bytesOf (c .slots)) j) → Beside c about d → Sound c about opening e (gives o d)
-  done o d g l n v k m f b s = record {
+      (o : Outcome) (d : Conn) → mayGive (o .reply) ≡ true → leavesAll (o .reply) ≡ false → Inv d → d .config ≡ c .config → c .nextId ≤ d .nextId → (d .growth ≡ c .growth) ⊎ (moves e ≡ true) →
+      ((j : ℕ) → bytesOf (d .slots) j ≡ left e (bytesOf (c .slots)) j) → Beside c about d → Sound c about e (gives o d)
+  done o d g l v k m f b s = record {
     inv = v;
     config = k;
     next = m;
@@ -144,7 +111,6 @@ module _ (c : Conn) (about : ℕ → Type 0) (opening : Bool) (e : Event) where
     silent = λ t. true-not-false g t;
     figure = f;
     moved = b;
-    crowded = λ q. not-room (o .reply) n q;
     beside = s;
   }
 
@@ -199,8 +165,8 @@ module _ (c : Conn) (v : Inv c) where
     quiet = λ t. none-listed;
   }
 
-  pub ends : c .ended ≡ false → (about : ℕ → Type 0) (opening : Bool) (e : Event) (r : Reply) → leavesAll r ≡ false → isNoRoom r ≡ false → e ≡ nothing → Sound c about opening e (end c r)
-  ends live about opening e r l n k = record {
+  pub ends : c .ended ≡ false → (about : ℕ → Type 0) (e : Event) (r : Reply) → leavesAll r ≡ false → e ≡ nothing → Sound c about e (end c r)
+  ends live about e r l k = record {
     inv = ended-kept;
     config = refl;
     next = le-refl _;
@@ -208,38 +174,30 @@ module _ (c : Conn) (v : Inv c) where
     silent = λ t. (refl, refl, refl, refl, refl);
     figure = inl refl;
     moved = λ j. rw k (at-end (λ j x. x .bytes ≡ bytesOf (c .slots) j) (c .slots) (λ i. refl) j);
-    crowded = λ q. not-room r n q;
     beside = λ q. true-not-false (sym q) live;
   }
 
 -- ---- room
 
+-- what is open to the remote of a held stream
+abbrev pub openWindow : Entry → ℕ
+openWindow e = cond (e .held) (e .stream .flow .«receive_window») 0
+
 -- a held stream's receive window and unread bytes are within its maximum, a free slot has none
-pub within : (e : Entry) → Good e → cond (e .held) (e .stream .flow .«receive_window») 0 + length (e .bytes) ≤ cond (e .held) initialWindow 0 + growthOf e
+pub within : (e : Entry) → Good e → openWindow e + length (e .bytes) ≤ cond (e .held) initialWindow 0 + growthOf e
 within e g = go (e .held) refl
   where
     go : (b : Bool) → e .held ≡ b → cond b (e .stream .flow .«receive_window») 0 + length (e .bytes) ≤ cond b initialWindow 0 + growthOf e
     go true h = omega (arith, g .flows .fits, g .flows .low)
     go false h = rw (g .free h) (omega arith)
 
--- no more bytes are unread than 262,144 for each handle and what was grown
-pub capacity : (es : List Entry) → ((j : ℕ) → Good (entry es j)) → unreadTotal es ≤ heldCount es * initialWindow + sum growthOf es
+-- no more bytes are open to the remote, or unread, than 262,144 for each handle and what was grown
+pub capacity : (es : List Entry) → ((j : ℕ) → Good (entry es j)) → sum openWindow es + unreadTotal es ≤ heldCount es * initialWindow + sum growthOf es
 capacity es g =
     omega (
       arith,
-      sum-le (λ (e : Entry). length (e .bytes)) (λ e. cond (e .held) initialWindow 0 + growthOf e) es vacant (λ j. omega (arith, within (entry es j) (g j))),
+      sum-le (λ (e : Entry). openWindow e + length (e .bytes)) (λ e. cond (e .held) initialWindow 0 + growthOf e) es vacant (λ j. within (entry es j) (g j)),
+      sum-add openWindow (λ (e : Entry). length (e .bytes)) es,
       sum-add (λ (e : Entry). cond (e .held) initialWindow 0) growthOf es,
       sum-each (λ (e : Entry). e .held) initialWindow es,
     )
-
--- a body that finds no room: with it queued the handles would hold more than the pool
-pub crowds :
-    (c : Conn) → Inv c → (i : ℕ) → i < length (c .slots) → (x : Entry) → Good x → growthOf x ≡ growthOf (entry (c .slots) i) → (n : ℕ) → length (x .bytes) ≡ length (entry (c .slots) i .bytes) + n →
-    ltb (room c) n ≡ true → c .config .pool < heldCount (set (c .slots) i x) * initialWindow + c .growth
-crowds c v i h x g e n b t =
-    let es = set (c .slots) i x in
-    let p = capacity es (at-set (λ j y. Good y) (c .slots) i x vacant h g (λ j ne. v .good j)) in
-    let q = sum-set (λ (y : Entry). length (y .bytes)) (c .slots) i x vacant h in
-    let r = sum-set growthOf (c .slots) i x vacant h in
-    let s = ltb-true (room c) n t in
-    omega (arith, p, q, r, s, v .figure)

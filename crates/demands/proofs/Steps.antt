@@ -26,29 +26,18 @@ use Rattle.rules.specs.Ending.{Result, refuse}
 use Rattle.rules.specs.Calls.{growthOf}
 use Rattle.rules.specs.Step.{onDecoded, step}
 use Rattle.rules.specs.Step as rules
-use Rattle.demands.specs.Demands.{Reach, new, then, wouldOpen, opensDecoded}
+use Rattle.demands.specs.Demands.{Reach, new, then}
 use Rattle.demands.specs.Handles.{about, aboutDecoded}
 use Rattle.demands.specs.History.{Event, nothing, gaveOut, event, byFrame}
 use Rattle.rules.proofs.Lists.{both}
 use Rattle.demands.proofs.Lists.{split, true-not-false, getD-same, sum-none}
 use Rattle.demands.proofs.Invariant.{Allowed, Inv, vacant-good}
-use Rattle.demands.proofs.Sound.{Sound, left, same-put, bytesOf, refused-plain, ends}
+use Rattle.demands.proofs.Sound.{Sound, left, same-put, bytesOf, refused, ends}
 use Rattle.demands.proofs.Frames.{headers}
 use Rattle.demands.proofs.Calls.{reads, writes, closes}
 use Rattle.demands.proofs.Handles.{opens-stream, drops, ticks}
 
 -- ---- a call
-
--- whether a call would make a stream of a body
-abbrev pub callOpens : Conn → rules.Call → Bool
-callOpens c (rules.tick now) = false
-callOpens c (rules.frame now head body) = wouldOpen c head body
-callOpens c (rules.open-stream now) = false
-callOpens c (rules.read now i asked) = false
-callOpens c (rules.write now i given) = false
-callOpens c (rules.close now i) = false
-callOpens c (rules.drop now i) = false
-callOpens c (rules.gone now) = false
 
 module _ (c : Conn) (v : Inv c) where
   -- an event that leaves all bytes
@@ -56,44 +45,44 @@ module _ (c : Conn) (v : Inv c) where
   Still e = (j : ℕ) → bytesOf (c .slots) j ≡ left e (bytesOf (c .slots)) j
 
   -- a time, an ended connection and a handle that is not held are refused; else the rules decide
-  timed-ok : (here : ℕ → Type 0) (opening : Bool) (e : Result → Event) (now : ℕ) (next : Result) → Still (e (refuse c reply.Time)) → Sound c here opening (e next) next → Sound c here opening (e (rules.timed c now next)) (rules.timed c now next)
-  timed-ok here opening e now next n s = split (λ r. Sound c here opening (e r) r) (ltb lastTime now) (λ t. refused-plain c here opening _ v reply.Time refl n) (λ t. s)
+  timed-ok : (here : ℕ → Type 0) (e : Result → Event) (now : ℕ) (next : Result) → Still (e (refuse c reply.Time)) → Sound c here (e next) next → Sound c here (e (rules.timed c now next)) (rules.timed c now next)
+  timed-ok here e now next n s = split (λ r. Sound c here (e r) r) (ltb lastTime now) (λ t. refused c here _ v reply.Time n) (λ t. s)
 
-  live-ok : (here : ℕ → Type 0) (opening : Bool) (e : Result → Event) (next : Result) → Still (e (refuse c reply.Closed)) → (c .ended ≡ false → Sound c here opening (e next) next) → Sound c here opening (e (rules.live c next)) (rules.live c next)
-  live-ok here opening e next n s = split (λ r. Sound c here opening (e r) r) (c .ended) (λ t. refused-plain c here opening _ v reply.Closed refl n) s
+  live-ok : (here : ℕ → Type 0) (e : Result → Event) (next : Result) → Still (e (refuse c reply.Closed)) → (c .ended ≡ false → Sound c here (e next) next) → Sound c here (e (rules.live c next)) (rules.live c next)
+  live-ok here e next n s = split (λ r. Sound c here (e r) r) (c .ended) (λ t. refused c here _ v reply.Closed n) s
 
-  holding-ok : (here : ℕ → Type 0) (e : Result → Event) (i : ℕ) (next : Result) → Still (e (refuse c reply.NotHeld)) → (entry (c .slots) i .held ≡ true → Sound c here false (e next) next) →
-      Sound c here false (e (rules.holding c i next)) (rules.holding c i next)
-  holding-ok here e i next n s = split (λ r. Sound c here false (e r) r) (entry (c .slots) i .held) s (λ h. refused-plain c here false _ v reply.NotHeld refl n)
+  holding-ok : (here : ℕ → Type 0) (e : Result → Event) (i : ℕ) (next : Result) → Still (e (refuse c reply.NotHeld)) → (entry (c .slots) i .held ≡ true → Sound c here (e next) next) →
+      Sound c here (e (rules.holding c i next)) (rules.holding c i next)
+  holding-ok here e i next n s = split (λ r. Sound c here (e r) r) (entry (c .slots) i .held) s (λ h. refused c here _ v reply.NotHeld n)
 
-  decodes : (d : Decoded) (body : List ℕ) (now : ℕ) → Sound c (aboutDecoded d c) (opensDecoded d c body) (byFrame d c body (onDecoded d c body now .outcome)) (onDecoded d c body now)
+  decodes : (d : Decoded) (body : List ℕ) (now : ℕ) → Sound c (aboutDecoded d c) (byFrame d c body (onDecoded d c body now .outcome)) (onDecoded d c body now)
   unfolding onDecoded
-  decodes found.Size body now = refused-plain c _ false _ v reply.Size refl (λ j. refl)
+  decodes found.Size body now = refused c _ _ v reply.Size (λ j. refl)
   decodes (found.Version n) body now =
-      timed-ok _ false (λ r. nothing) now _ (λ j. refl) (live-ok _ false (λ r. nothing) _ (λ j. refl) (λ l. ends c v l _ false _ reply.Version refl refl refl))
+      timed-ok _ (λ r. nothing) now _ (λ j. refl) (live-ok _ (λ r. nothing) _ (λ j. refl) (λ l. ends c v l _ _ reply.Version refl refl))
   decodes (found.Type n) body now =
-      timed-ok _ false (λ r. nothing) now _ (λ j. refl) (live-ok _ false (λ r. nothing) _ (λ j. refl) (λ l. ends c v l _ false _ reply.Type refl refl refl))
+      timed-ok _ (λ r. nothing) now _ (λ j. refl) (live-ok _ (λ r. nothing) _ (λ j. refl) (λ l. ends c v l _ _ reply.Type refl refl))
   decodes (found.Header h) body now =
       let e : Result → Event = λ r. byFrame (found.Header h) c body (r .outcome) in
-      timed-ok _ _ e now _ (λ j. refl) (live-ok _ _ e _ (λ j. refl) (λ l. headers c v l h body now))
+      timed-ok _ e now _ (λ j. refl) (live-ok _ e _ (λ j. refl) (λ l. headers c v l h body now))
 
-  pub sound : (k : rules.Call) → Sound c (about c k) (callOpens c k) (event c k (step c k .outcome)) (step c k)
+  pub sound : (k : rules.Call) → Sound c (about c k) (event c k (step c k .outcome)) (step c k)
   unfolding step
-  sound (rules.tick now) = timed-ok _ false (λ r. nothing) now _ (λ j. refl) (live-ok _ false (λ r. nothing) _ (λ j. refl) (λ l. ticks c v now))
+  sound (rules.tick now) = timed-ok _ (λ r. nothing) now _ (λ j. refl) (live-ok _ (λ r. nothing) _ (λ j. refl) (λ l. ticks c v now))
   sound (rules.frame now head body) = decodes (decoded head) body now
   sound (rules.open-stream now) =
       let e : Result → Event = λ r. event c (rules.open-stream now) (r .outcome) in
-      timed-ok _ false e now _ (λ j. refl) (live-ok _ false e _ (λ j. refl) (λ l. opens-stream c v l now))
+      timed-ok _ e now _ (λ j. refl) (live-ok _ e _ (λ j. refl) (λ l. opens-stream c v l now))
   sound (rules.read now i asked) =
       let e : Result → Event = λ r. event c (rules.read now i asked) (r .outcome) in
       let s : Still (gaveOut i []) = λ j. sym (same-put (bytesOf (c .slots)) i j) in
-      timed-ok _ false e now _ s (holding-ok _ e i _ s (λ h. reads c v i h asked now))
-  sound (rules.write now i given) = timed-ok _ false (λ r. nothing) now _ (λ j. refl) (holding-ok _ (λ r. nothing) i _ (λ j. refl) (λ h. writes c v i h given))
-  sound (rules.close now i) = timed-ok _ false (λ r. nothing) now _ (λ j. refl) (holding-ok _ (λ r. nothing) i _ (λ j. refl) (λ h. closes c v i h))
+      timed-ok _ e now _ s (holding-ok _ e i _ s (λ h. reads c v i h asked now))
+  sound (rules.write now i given) = timed-ok _ (λ r. nothing) now _ (λ j. refl) (holding-ok _ (λ r. nothing) i _ (λ j. refl) (λ h. writes c v i h given))
+  sound (rules.close now i) = timed-ok _ (λ r. nothing) now _ (λ j. refl) (holding-ok _ (λ r. nothing) i _ (λ j. refl) (λ h. closes c v i h))
   sound (rules.drop now i) =
       let e : Result → Event = λ r. event c (rules.drop now i) (r .outcome) in
-      timed-ok _ false e now _ (λ j. refl) (holding-ok _ e i _ (λ j. refl) (λ h. drops c v i h))
-  sound (rules.gone now) = timed-ok _ false (λ r. nothing) now _ (λ j. refl) (live-ok _ false (λ r. nothing) _ (λ j. refl) (λ l. ends c v l _ false _ reply.Closed refl refl refl))
+      timed-ok _ e now _ (λ j. refl) (holding-ok _ e i _ (λ j. refl) (λ h. drops c v i h))
+  sound (rules.gone now) = timed-ok _ (λ r. nothing) now _ (λ j. refl) (live-ok _ (λ r. nothing) _ (λ j. refl) (λ l. ends c v l _ _ reply.Closed refl refl))
 
 -- ---- a new connection
 

@@ -1,31 +1,37 @@
 -- The demands, proved. The statements are those of `specs/Theorems.antt`. Assumes nothing.
 use mathlib.Core.Path.{_≡_, refl, ap, _∙_}
-use mathlib.Core.Logic.{_⊎_, inl, inr}
+use mathlib.Core.Logic.{_≢_, _⊎_, inl, inr}
 use mathlib.Core.Bool.{Bool, true, false, cond}
 use mathlib.Core.List.{List}
-use Prim.Native.Nat.{ℕ, _+_, _-_, _*_, _%_, _≤_, _<_, min}
+use Prim.Native.Nat.{ℕ, _+_, _-_, _*_, _%_, _≤_, min}
 use native.Mathlib.Omega.{arith}
 use lib.ListN.{length, take}
 use lib.Dec.{eqb}
-use borrow.Author.Tests.{eqb-true}
+use borrow.Author.Tests.{eqb-true, le-ltb}
 use Rattle.frame.specs.Header.{initialWindow}
+use Rattle.frame.specs.Wire.{decoded}
+use Rattle.frame.specs.declared.header.Header.{Header}
+use Rattle.frame.specs.declared.header.Decoded.{Decoded}
+use Rattle.frame.specs.declared.header.Decoded.the-variants as found
 use Rattle.stream.specs.States.{canRead}
-use Rattle.rules.specs.State.{Entry, Conn, initial, vacant, entry, one, firstOwn}
+use Rattle.rules.specs.State.{Entry, Conn, initial, vacant, entry, one, firstOwn, room}
 use Rattle.rules.specs.Ending.{Result}
 use Rattle.rules.specs.Calls.{growthOf, readRules, readWith, windowStep}
 use Rattle.rules.specs.Step.{step, run}
 use Rattle.rules.specs.Step as rules
-use Rattle.demands.specs.Demands.{Reach, then, heldCount, wouldOpen}
+use Rattle.demands.specs.Demands.{Reach, then, heldCount, ruled, wouldOpen, wouldQueue, wouldMake, Overflows}
 use Rattle.demands.specs.History.{event}
-use Rattle.demands.specs.Theorems.{endedForReads, GrowthIsASum, GrowthIsWithin, GrowthIsReturned, GrowthStays, WindowsAreWithin, BytesAreKept, UnreadIsTheRest, ReadsGiveTheNext, ReadsGiveAll, EndedReadsGiveNone, UnreadIsWithin, RoomForHandles, RoomForM, RoomForK, IdsAreOurs, IdsRise, IdsGoByTwo, NextIdIsAbove, ListedAreDistinct, ListedAreHeld, UnlistedAreClosed, FreeAreVacant, TableIsWithin, RefusalsChangeNothing, OnlyDoneGives, SettingsAreAllowed, SettingsStay}
+use Rattle.demands.specs.Theorems.{endedForReads, GrowthIsASum, GrowthIsWithin, GrowthIsReturned, GrowthStays, WindowsAreWithin, BytesAreKept, UnreadIsTheRest, ReadsGiveTheNext, ReadsGiveAll, EndedReadsGiveNone, UnreadIsWithin, Opened, SevenExactly, EightExactly, WouldOpenIsExact, RoomForHandles, RoomForM, UnqueuedNeedNoRoom, RoomForK, IdsAreOurs, IdsRise, IdsGoByTwo, NextIdIsAbove, ListedAreDistinct, ListedAreHeld, UnlistedAreClosed, FreeAreVacant, TableIsWithin, RefusalsChangeNothing, OnlyDoneGives, SettingsAreAllowed, SettingsStay}
 use Rattle.demands.proofs.Lists.{split, true-not-false, sum-eq, sum-count}
 use Rattle.demands.proofs.Invariant.{Good, Inv}
-use Rattle.demands.proofs.Sound.{Crowded, moves}
-use Rattle.demands.proofs.Steps.{callOpens, sound, started, reached, run-reaches}
+use Rattle.demands.proofs.Sound.{moves}
+use Rattle.demands.proofs.Steps.{sound, started, reached, run-reaches}
 use Rattle.demands.proofs.Handles.{growth-part}
 use Rattle.demands.proofs.Answers.{last-own, run-rises, front, gives-all, timely, holds, drop-returns}
 use Rattle.demands.proofs.Bytes.{event-still, whole, rest}
 use Rattle.demands.proofs.Turns.{gave, by-two}
+use Rattle.demands.proofs.Exact.{named, exact}
+use Rattle.demands.proofs.Limits.{limits, queued-for, roomy}
 
 -- ---- growth
 
@@ -89,36 +95,64 @@ ended-reads-give-none c now i asked t d h = rw (timely c now _ t, holds c i _ h,
 pub unread-is-within : UnreadIsWithin
 unread-is-within c r = reached r .room
 
--- ---- room
+-- ---- slots and room
+
+pub seven-exactly : SevenExactly
+seven-exactly c r k = limits c (reached r) k .seven
+
+pub eight-exactly : EightExactly
+eight-exactly c r k = limits c (reached r) k .eight
+
+-- a frame that makes a stream has a header
+opened-as : (c : Conn) (now : ℕ) (body : List ℕ) (test : Header → Bool) (r : Result) (d : Decoded) → ruled d c now body test ≡ true → Opened c (named d) r → (h : Header) × (d ≡ found.Header h) × Opened c (h .«stream_id») r
+opened-as c now body test r found.Size e o = true-not-false e refl
+opened-as c now body test r (found.Version n) e o = true-not-false e refl
+opened-as c now body test r (found.Type n) e o = true-not-false e refl
+opened-as c now body test r (found.Header h) e o = (h, refl, o)
+
+pub would-open-is-exact : WouldOpenIsExact
+unfolding step
+would-open-is-exact c r now head body =
+    let x = exact c (reached r) body now (decoded head) in (
+      (λ e l p. opened-as c now body _ (step c (rules.frame now head body)) (decoded head) e (x .opened e l (rw (le-ltb (room c) (length body) p) (split (λ b. b ≡ false) (wouldQueue c now head body) (λ t. refl) (λ t. refl))))),
+      x .same,
+    )
+
+-- a body that finds no room needs more handles than the pool was made for
+no-room : (c : Conn) → Inv c → (n : ℕ) (k : rules.Call) →
+    c .config .limit + n * initialWindow ≤ c .config .pool + c .config .«max_num_streams» * initialWindow →
+    heldCount (c .slots) ≤ n → (wouldMake c k ≡ true → heldCount (c .slots) + 1 ≤ n) → Overflows c k → ⊥
+no-room c v n (rules.tick now) p h o x = x
+no-room c v n (rules.frame now head body) p h o x = roomy c v body n (wouldOpen c now head body) (x .1) (queued-for c v body now (decoded head) (x .0)) p h o
+no-room c v n (rules.open-stream now) p h o x = x
+no-room c v n (rules.read now i asked) p h o x = x
+no-room c v n (rules.write now i given) p h o x = x
+no-room c v n (rules.close now i) p h o x = x
+no-room c v n (rules.drop now i) p h o x = x
+no-room c v n (rules.gone now) p h o x = x
 
 one-of : (b : Bool) → b ≡ true → one b ≡ 1
 one-of b e = rw e
 
--- with n handles at the most, the bytes are within the pool
-no-crowd : (pool limit n m held growth : ℕ) → held ≤ n → growth + m * initialWindow ≤ limit → limit + n * initialWindow ≤ pool + m * initialWindow → pool < held * initialWindow + growth → ⊥
-no-crowd pool limit n m held growth h b p q = omega arith
-
--- a frame that finds no room needs more handles than the pool was made for
-no-room : (c : Conn) → Inv c → (n : ℕ) (opening : Bool) →
-    c .config .limit + n * initialWindow ≤ c .config .pool + c .config .«max_num_streams» * initialWindow →
-    heldCount (c .slots) ≤ n → (opening ≡ true → heldCount (c .slots) < length (c .slots) → heldCount (c .slots) + 1 ≤ n) → Crowded c opening → ⊥
-no-room c v n opening p h o (inl q) = no-crowd (c .config .pool) (c .config .limit) n (c .config .«max_num_streams») (heldCount (c .slots)) (c .growth) h (v .bounded) p q
-no-room c v n opening p h o (inr q) =
-    no-crowd (c .config .pool) (c .config .limit) n (c .config .«max_num_streams») (heldCount (c .slots) + 1) (c .growth) (o (q .0) (q .1)) (v .bounded) p (q .2)
-
 pub room-for-handles : RoomForHandles
 room-for-handles c r n now head body h p e =
-    no-room c (reached r) n (wouldOpen c head body) p (omega (arith, h)) (λ o l. omega (arith, h, one-of (wouldOpen c head body) o))
-    (sound c (reached r) (rules.frame now head body) .crowded e)
+    no-room c (reached r) n (rules.frame now head body) p (omega (arith, h)) (λ o. omega (arith, h, one-of (wouldOpen c now head body) o))
+    (eight-exactly c r (rules.frame now head body) .0 e .0)
 
 pub room-for-m : RoomForM
 room-for-m c r now head body p h = room-for-handles c r (c .config .«max_num_streams») now head body h (omega (arith, p))
 
+pub unqueued-need-no-room : UnqueuedNeedNoRoom
+unqueued-need-no-room c r now head body n e = true-not-false (eight-exactly c r (rules.frame now head body) .0 e .0 .0) n
+
 pub room-for-k : RoomForK
 room-for-k c r k p e =
     let v = reached r in
-    let n = sum-count (λ (x : Entry). x .held) (c .slots) in
-    no-room c v (c .config .slots) (callOpens c k) (enough (c .config .slots) (c .config .«max_num_streams») (v .allowed .enough) p) (omega (arith, n, v .size)) (λ o l. omega (arith, l, v .size)) (sound c v k .crowded e)
+    let held = sum-count (λ (x : Entry). x .held) (c .slots) in
+    let x = eight-exactly c r k .0 e in
+    let left : wouldMake c k ≡ true → heldCount (c .slots) ≢ c .config .slots = λ o full. x .1 (seven-exactly c r k .1 (o, full)) in
+    no-room c v (c .config .slots) k (enough (c .config .slots) (c .config .«max_num_streams») (v .allowed .enough) p) (omega (arith, held, v .size))
+    (λ o. omega (arith, left o, held, v .size)) (x .0)
   where
     enough : (k m : ℕ) → m ≤ k → c .config .limit + (k - m) * initialWindow ≤ c .config .pool → c .config .limit + k * initialWindow ≤ c .config .pool + m * initialWindow
     enough k m l q = omega (arith, l, q)

@@ -1,10 +1,10 @@
 -- The words of the demands. Sentences in quotes are document 01's.
 use mathlib.Core.Path.{_≡_}
-use mathlib.Core.Bool.{Bool, false, cond, not}
+use mathlib.Core.Bool.{Bool, true, false, cond, not}
 use mathlib.Core.List.{List}
-use Prim.Native.Nat.{ℕ, _+_}
+use Prim.Native.Nat.{ℕ, _+_, _<_}
 use lib.ListN.{length}
-use lib.Dec.{ltb, leb}
+use lib.Dec.{eqb, ltb, leb}
 use Rattle.frame.specs.Header.{contains, syn, rst, initialWindow}
 use Rattle.frame.specs.Wire.{decoded}
 use Rattle.frame.specs.declared.header.Header.{Header}
@@ -16,10 +16,10 @@ use Rattle.flow_control.specs.Windows.{top}
 use Rattle.rules.specs.declared.Settings.{Settings}
 use Rattle.rules.specs.declared.Config.{Config}
 use Rattle.rules.specs.declared.Checked.the-variants.{Fine}
-use Rattle.rules.specs.Settings.{checked}
-use Rattle.rules.specs.Lists.{sum}
-use Rattle.rules.specs.State.{Entry, Conn, initial, one, find, listedCount, isRemote}
-use Rattle.rules.specs.Frames.{isKnown}
+use Rattle.rules.specs.Settings.{checked, lastTime}
+use Rattle.rules.specs.Lists.{Place, at, nowhere, sum}
+use Rattle.rules.specs.State.{Entry, Conn, initial, entry, one, find, listedCount, unacknowledged, room, isRemote}
+use Rattle.rules.specs.Frames.{isKnown, bodyLength}
 use Rattle.rules.specs.Calls.{growthOf}
 use Rattle.rules.specs.Step as rules
 
@@ -40,12 +40,25 @@ heldGrowth es = sum (λ e. cond (e .held) (growthOf e) 0) es
 abbrev pub and : Bool → Bool → Bool
 and a b = cond a b false
 
+-- ---- what a frame would do
+
+-- "Order, frame: 10, 5 (ended), 11, 12, 13, the rules below": whether a frame comes to the rules, and its header is as asked
+abbrev pub ruled : Decoded → Conn → ℕ → List ℕ → (Header → Bool) → Bool
+ruled found.Size c now body test = false
+ruled (found.Version v) c now body test = false
+ruled (found.Type t) c now body test = false
+ruled (found.Header h) c now body test =
+    and (leb now lastTime)
+    (and (not (c .ended))
+    (and (eqb (length body) (bodyLength (h .tag) (h .length .0)))
+    (test h)))
+
 -- Whether the rules would make a stream of a frame that has the header: SYN and no RST, the remote's parity, an id that is not in
 -- the table, fewer than M streams in it, and the last test.
 abbrev pub admits : Conn → Header → Bool → Bool
 admits c h last =
-    and (contains (h .flags) syn)
-    (and (not (contains (h .flags) rst))
+    and (not (contains (h .flags) rst))
+    (and (contains (h .flags) syn)
     (and (isRemote (c .config .mode) (h .«stream_id»))
     (and (not (isKnown (find (c .slots) (h .«stream_id»))))
     (and (ltb (listedCount (c .slots)) (c .config .«max_num_streams»)) last))))
@@ -58,19 +71,67 @@ opens c h body = admits c h (leb (length body) initialWindow)
 abbrev pub opensByCredit : Conn → Header → Bool
 opensByCredit c h = admits c h (leb (h .length .0 + initialWindow) top)
 
--- of a frame that needs room for its stream: a WindowUpdate queues nothing, so it needs none
 abbrev pub opensAs : Tag → Conn → Header → List ℕ → Bool
 opensAs tag.Data c h body = opens c h body
-opensAs tag.WindowUpdate c h body = false
+opensAs tag.WindowUpdate c h body = opensByCredit c h
 opensAs tag.Ping c h body = false
 opensAs tag.GoAway c h body = false
 
-abbrev pub opensDecoded : Decoded → Conn → List ℕ → Bool
-opensDecoded found.Size c body = false
-opensDecoded (found.Version v) c body = false
-opensDecoded (found.Type t) c body = false
-opensDecoded (found.Header h) c body = opensAs (h .tag) c h body
+-- "the rules would make a stream" of a frame as it comes in at a time
+abbrev pub wouldOpen : Conn → ℕ → List ℕ → List ℕ → Bool
+wouldOpen c now head body = ruled (decoded head) c now body (λ h. opensAs (h .tag) c h body)
 
--- the same of a frame as it comes in
-abbrev pub wouldOpen : Conn → List ℕ → List ℕ → Bool
-wouldOpen c head body = opensDecoded (decoded head) c body
+-- "Known, Data: body above the receive window, code 1. Else .. body queued"
+abbrev pub takesAt : Place → Conn → List ℕ → Bool
+takesAt nowhere c body = false
+takesAt (at i) c body = leb (length body) (entry (c .slots) i .stream .flow .«receive_window»)
+
+-- Whether the rules would queue the body of a Data frame that has the header: no RST, and a new stream with SYN, or else one in the
+-- table that takes it.
+abbrev pub queues : Conn → Header → List ℕ → Bool
+queues c h body =
+    and (not (contains (h .flags) rst))
+    (cond (contains (h .flags) syn) (opens c h body) (takesAt (find (c .slots) (h .«stream_id»)) c body))
+
+abbrev pub queuesAs : Tag → Conn → Header → List ℕ → Bool
+queuesAs tag.Data c h body = queues c h body
+queuesAs tag.WindowUpdate c h body = false
+queuesAs tag.Ping c h body = false
+queuesAs tag.GoAway c h body = false
+
+-- "the body would be queued" of a frame as it comes in at a time
+abbrev pub wouldQueue : Conn → ℕ → List ℕ → List ℕ → Bool
+wouldQueue c now head body = ruled (decoded head) c now body (λ h. queuesAs (h .tag) c h body)
+
+-- ---- what a call would do
+
+-- "Open: 10, 5, 3, wait, 4, 7": whether an open passes all but the 7
+abbrev pub openPasses : Conn → ℕ → Bool
+openPasses c now =
+    and (leb now lastTime)
+    (and (not (c .ended))
+    (and (ltb (listedCount (c .slots)) (c .config .«max_num_streams»))
+    (and (ltb (unacknowledged (c .config .mode) (c .slots)) 256)
+    (leb (c .nextId + 2) top))))
+
+-- "the rules would make a stream" of a call
+abbrev pub wouldMake : Conn → rules.Call → Bool
+wouldMake c (rules.tick now) = false
+wouldMake c (rules.frame now head body) = wouldOpen c now head body
+wouldMake c (rules.open-stream now) = openPasses c now
+wouldMake c (rules.read now i asked) = false
+wouldMake c (rules.write now i given) = false
+wouldMake c (rules.close now i) = false
+wouldMake c (rules.drop now i) = false
+wouldMake c (rules.gone now) = false
+
+-- "the body would be queued and is longer than the room" of a call
+abbrev pub Overflows : Conn → rules.Call → Type 0
+Overflows c (rules.tick now) = ⊥
+Overflows c (rules.frame now head body) = (wouldQueue c now head body ≡ true) × (room c < length body)
+Overflows c (rules.open-stream now) = ⊥
+Overflows c (rules.read now i asked) = ⊥
+Overflows c (rules.write now i given) = ⊥
+Overflows c (rules.close now i) = ⊥
+Overflows c (rules.drop now i) = ⊥
+Overflows c (rules.gone now) = ⊥

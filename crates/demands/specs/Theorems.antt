@@ -7,6 +7,10 @@ use mathlib.Core.List.{List, [], _∷_, _++_}
 use Prim.Native.Nat.{ℕ, zero, suc, _+_, _-_, _*_, _%_, _≤_, _<_, min}
 use lib.ListN.{length, take, drop}
 use Rattle.frame.specs.Header.{initialWindow}
+use Rattle.frame.specs.Wire.{decoded}
+use Rattle.frame.specs.declared.header.Header.{Header}
+use Rattle.frame.specs.declared.header.StreamId.{StreamId}
+use Rattle.frame.specs.declared.header.Decoded.the-variants as found
 use Rattle.flow_control.specs.Windows.{top}
 use Rattle.stream.specs.declared.State.the-variants.{Closed}
 use Rattle.stream.specs.declared.Sent.the-variants.{Nothing}
@@ -20,13 +24,13 @@ use Rattle.rules.specs.declared.Which.the-variants as which
 use Rattle.rules.specs.declared.Value.{Value}
 use Rattle.rules.specs.declared.Value.the-variants as value
 use Rattle.rules.specs.Settings.{checked, lastTime}
-use Rattle.rules.specs.State.{Conn, initial, vacant, entry, one, firstOwn, isOwn, listedCount, unreadTotal}
+use Rattle.rules.specs.State.{Conn, initial, vacant, entry, one, firstOwn, isOwn, listedCount, unreadTotal, room}
 use Rattle.rules.specs.Ending.{Result, gives}
 use Rattle.rules.specs.Calls.{growthOf, onSlot}
 use Rattle.rules.specs.Step.{step, run}
 use Rattle.rules.specs.Step as rules
 use Rattle.rules.specs.Replies.{Outcome, leavesAll, mayGive}
-use Rattle.demands.specs.Demands.{Reach, heldCount, heldGrowth, and, wouldOpen}
+use Rattle.demands.specs.Demands.{Reach, heldCount, heldGrowth, and, wouldOpen, wouldQueue, wouldMake, Overflows}
 use Rattle.demands.specs.History.{Heard, Story, isDone}
 
 -- ---- growth
@@ -112,14 +116,57 @@ EndedReadsGiveNone =
 abbrev pub UnreadIsWithin : Type 0
 UnreadIsWithin = (c : Conn) → Reach c → unreadTotal (c .slots) ≤ c .config .pool
 
--- ---- room
+-- ---- slots and room
+
+-- each holds where the other does
+abbrev pub Exactly : Type 0 → Type 0 → Type 0
+Exactly A B = (A → B) × (B → A)
+
+-- "Seven is given exactly when the rules would make a stream and all K slots are in use": of a frame, of an open, of no other call.
+abbrev pub SevenExactly : Type 0
+SevenExactly =
+    (c : Conn) → Reach c → (k : rules.Call) →
+    Exactly (step c k .outcome .reply ≡ reply.NoSlot) ((wouldMake c k ≡ true) × (heldCount (c .slots) ≡ c .config .slots))
+
+-- "8 exactly when the body would be queued and is longer than the room", and 7 is not given (reading A8): of a frame, of no other call.
+abbrev pub EightExactly : Type 0
+EightExactly =
+    (c : Conn) → Reach c → (k : rules.Call) →
+    let q = step c k .outcome .reply in
+    Exactly (q ≡ reply.NoRoom) (Overflows c k × (q ≢ reply.NoSlot))
+
+-- the same handles are held
+abbrev pub SameHeld : Conn → Conn → Type 0
+SameHeld c d = (i : ℕ) → entry (d .slots) i .held ≡ entry (c .slots) i .held
+
+-- that a call gave a new id
+abbrev pub Gave : Result → ℕ → Type 0
+Gave r id = (r .outcome .reply ≡ reply.Done) × (r .outcome .value ≡ value.Of id)
+
+-- one handle more is held: the answer has the id and a slot that was free, and that slot's stream is in the table and has the id
+abbrev pub Opened : Conn → StreamId → Result → Type 0
+Opened c id r =
+    (heldCount (r .after .slots) ≡ heldCount (c .slots) + 1)
+    × Gave r (id .0)
+    × ((i : ℕ) × (r .outcome .slot ≡ which.At (record { 0 = i })) × (entry (c .slots) i .held ≡ false)
+    × (let e = entry (r .after .slots) i in (e .held ≡ true) × (e .listed ≡ true) × (e .stream .id ≡ id)))
+
+-- The rules make a stream of a frame exactly where `wouldOpen` says so, a slot is free and there is room. (With all slots in use the
+-- reply is 7, with too little room 8: `SevenExactly`, `EightExactly`.)
+abbrev pub WouldOpenIsExact : Type 0
+WouldOpenIsExact =
+    (c : Conn) → Reach c → (now : ℕ) (head body : List ℕ) →
+    let r = step c (rules.frame now head body) in
+    (wouldOpen c now head body ≡ true → heldCount (c .slots) < c .config .slots → length body ≤ room c →
+    (h : Header) × (decoded head ≡ found.Header h) × Opened c (h .«stream_id») r)
+    × (wouldOpen c now head body ≡ false → SameHeld c (r .after))
 
 -- With handles held, counting one that the frame would open, at most n, a pool of the limit and 262,144 for each of the n beyond
 -- M refuses no frame with 8.
 abbrev pub RoomForHandles : Type 0
 RoomForHandles =
     (c : Conn) → Reach c → (n now : ℕ) (head body : List ℕ) →
-    heldCount (c .slots) + one (wouldOpen c head body) ≤ n →
+    heldCount (c .slots) + one (wouldOpen c now head body) ≤ n →
     c .config .limit + n * initialWindow ≤ c .config .pool + c .config .«max_num_streams» * initialWindow →
     step c (rules.frame now head body) .outcome .reply ≢ reply.NoRoom
 
@@ -127,7 +174,13 @@ RoomForHandles =
 abbrev pub RoomForM : Type 0
 RoomForM =
     (c : Conn) → Reach c → (now : ℕ) (head body : List ℕ) →
-    c .config .limit ≤ c .config .pool → heldCount (c .slots) + one (wouldOpen c head body) ≤ c .config .«max_num_streams» →
+    c .config .limit ≤ c .config .pool → heldCount (c .slots) + one (wouldOpen c now head body) ≤ c .config .«max_num_streams» →
+    step c (rules.frame now head body) .outcome .reply ≢ reply.NoRoom
+
+-- A frame whose body would not be queued, a WindowUpdate that opens a stream among them, needs no room, however many handles are held.
+abbrev pub UnqueuedNeedNoRoom : Type 0
+UnqueuedNeedNoRoom =
+    (c : Conn) → Reach c → (now : ℕ) (head body : List ℕ) → wouldQueue c now head body ≡ false →
     step c (rules.frame now head body) .outcome .reply ≢ reply.NoRoom
 
 -- K alone: with P at least limit + (K - M) x 262,144 no call at all is refused with 8 (reading E7).
@@ -143,10 +196,6 @@ RoomForK =
 abbrev pub lastOwn : Mode → ℕ
 lastOwn Client = 4294967293
 lastOwn Server = 4294967292
-
--- that a call gave a new id
-abbrev pub Gave : Result → ℕ → Type 0
-Gave r id = (r .outcome .reply ≡ reply.Done) × (r .outcome .value ≡ value.Of id)
 
 -- "ids start at 1 (client) or 2 (server) and go by 2": an id given has our parity and is at most the last one.
 abbrev pub IdsAreOurs : Type 0

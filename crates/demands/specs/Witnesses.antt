@@ -189,6 +189,6 @@ Runs =
     × From (client 2 1048576 2 8) unknownVersion (λ r. replies (r .outcomes) ≡ 11 ∷ 5 ∷ [])
     × From (client 2 1048576 2 8) unknownType (λ r. replies (r .outcomes) ≡ 12 ∷ 5 ∷ [])
 
--- the state after a stream was reset and its number opened again: slot 0 is stale, slot 1 is the newer
+-- the state after a stream was reset and its number opened again: slot 0 is stale, slot 1 is the newer (for `stale-is-reached`)
 abbrev pub staleState : Conn
 staleState = ran (client 2 1048576 2 64) stales .after

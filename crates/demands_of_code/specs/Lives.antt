@@ -82,6 +82,6 @@ Room =
     (c : Connection) (t l p : List ℕ) (h : ℕ → Heard) → Lives c t l p h →
     c .config .limit ≤ c .config .pool →
     (time : ℕ) (head body : List ℕ) →
-    heldCount (slotsOf (c .memory) t l p) + one (wouldOpen (absOf c t l p) head body) ≤ c .config .«max_num_streams» →
+    heldCount (slotsOf (c .memory) t l p) + one (wouldOpen (absOf c t l p) time head body) ≤ c .config .«max_num_streams» →
     (d : Done) (t′ l′ p′ : List ℕ) → Promised true c t l p (frame time head body) d t′ l′ p′ →
     d .answer .reply ≢ reply.NoRoom

@@ -3,7 +3,7 @@ use mathlib.Core.Path.{_≡_, refl}
 use mathlib.Core.Bool.{Bool, true, false, cond}
 use mathlib.Core.List.{List, [], _∷_}
 use Prim.Native.Nat.{ℕ, _/_, _%_}
-use lib.ListN.{getD, replicate}
+use lib.ListN.{getD, length, replicate}
 use lib.Dec.{eqb}
 use Rattle.frame.specs.declared.header.Tag.{Tag}
 use Rattle.frame.specs.declared.header.Tag.the-variants as tag
@@ -106,6 +106,10 @@ config m = record {
   pool = 4294967295;
 }
 
+pub all : List Bool → Bool
+all [] = true
+all (b ∷ bs) = cond b (all bs) false
+
 valued : Value → ℕ → Bool
 valued (value.Of n) v = eqb n v
 valued value.None v = false
@@ -129,13 +133,20 @@ header t flags n =
     0 ∷ t ∷ 0 ∷ flags ∷ 0 ∷ 0 ∷ 0 ∷ 2 ∷ n / 16777216 % 256 ∷ n / 65536 % 256 ∷ n / 256 % 256 ∷ n % 256 ∷ []
 
 -- a WindowUpdate with SYN, and a Data frame with SYN, on a client's new connection
-pub synCredit : ℕ → Outcome
+pub synCredit : ℕ → Result
 unfolding config header
-synCredit n = Step.step (initial (config Client)) (Step.frame 0 (header 1 1 n) []) .outcome
+synCredit n = Step.step (initial (config Client)) (Step.frame 0 (header 1 1 n) [])
 
-pub synBody : ℕ → Outcome
+pub synBody : ℕ → Result
 unfolding config header zeros
-synBody n = Step.step (initial (config Client)) (Step.frame 0 (header 0 1 n) (zeros n)) .outcome
+synBody n = Step.step (initial (config Client)) (Step.frame 0 (header 0 1 n) (zeros n))
+
+-- slot 0 is held and in the table, with this send window, this receive window and so many unread bytes
+pub taken : Conn → ℕ → ℕ → ℕ → Bool
+unfolding all
+taken c send receive unread =
+    let e = entry (c .slots) 0 in
+    all (e .held ∷ e .listed ∷ eqb (e .stream .flow .«send_window») send ∷ eqb (e .stream .flow .«receive_window») receive ∷ eqb (length (e .bytes)) unread ∷ [])
 
 -- a ping at 1,000 and its pong at 1,010; a stream made at 2,000 by a body of n bytes, which are read; then a read at the time
 pub primed : ℕ → Conn
@@ -199,16 +210,18 @@ grants (Frame h) n =
     false
 
 pub rows : List Bool
-unfolding numbered valued opens config header zeros synCredit synBody primed readAfter windows grants isUpdate grownReset resetDropped older
+unfolding all numbered valued opens config header zeros synCredit synBody taken primed readAfter windows grants isUpdate grownReset resetDropped older
 rows =
     numbered (opens Client 4294967293) 0 4294967293
     ∷ eqb (number (opens Client 4294967295 .reply)) 4
     ∷ numbered (opens Server 4294967292) 0 4294967292
     ∷ eqb (number (opens Server 4294967294 .reply)) 4
-    ∷ numbered (synCredit 4294705151) 0 2
-    ∷ numbered (synCredit 4294705152) 2 1
-    ∷ numbered (synBody 262144) 0 2
-    ∷ numbered (synBody 262145) 2 1
+    ∷ numbered (synCredit 4294705151 .outcome) 0 2
+    ∷ taken (synCredit 4294705151 .after) 4294967295 262144 0
+    ∷ numbered (synCredit 4294705152 .outcome) 2 1
+    ∷ numbered (synBody 262144 .outcome) 0 2
+    ∷ taken (synBody 262144 .after) 262144 0 262144
+    ∷ numbered (synBody 262145 .outcome) 2 1
     -- due 131,072 is sent, 131,071 is not; elapsed 20 is twice the round trip, so nothing grows; at 19 it does
     ∷ windows (readAfter 131072 2020 .after) 0 262144 262144
     ∷ windows (readAfter 131071 2020 .after) 0 131073 262144
@@ -222,13 +235,9 @@ rows =
     ∷ eqb older 7
     ∷ []
 
-pub all : List Bool → Bool
-all [] = true
-all (b ∷ bs) = cond b (all bs) false
-
 -- Every row holds, and SYN with RST on an unknown id does nothing.
 pub examples : (all rows ≡ true)
     × (synReset ≡ gives (bare reply.Done) (initial (config Client)))
-unfolding rows all numbered valued opens config header zeros synCredit synBody primed readAfter windows synReset grants isUpdate grownReset resetDropped older
+unfolding rows all numbered valued opens config header zeros synCredit synBody taken primed readAfter windows synReset grants isUpdate grownReset resetDropped older
     ackStep onReset makeAt make synRules synData synUpdate takeAt knownData knownUpdate dataRules updateRules pongRules pingRules frameRules onHeader openAt open-rules readRest readWith windowStep readRules writeWith writeRules closeRules dropAt dropRules pingOut tickRules onDecoded step
 examples = (refl, refl)

@@ -36,7 +36,7 @@ onSlot i r v h b = record { reply = r; slot = which.At (record { 0 = i }); value
 
 -- ---- open
 
--- "ids start at 1 (client) or 2 (server) and go by 2. When next id + 2 passes 2^32-1, reply 4"
+-- "the lowest free one is taken"; 7 where "all K slots are in use"; "ids .. go by 2"
 unfoldable pub openAt : Place → Conn → ℕ → Result
 openAt nowhere c now = refuse c reply.NoSlot
 openAt (at i) c now =
@@ -44,7 +44,8 @@ openAt (at i) c now =
     (onSlot i reply.Done (value.Of (c .nextId)) Nothing [])
     (withSlot (withNextId c (c .nextId + 2)) i (newEntry (stream.newOutbound (record { 0 = c .nextId }) now) []))
 
--- "Open: table at M or more, 3; 256 or more own-parity streams Open and unacknowledged, wait"
+-- "Open: table at M or more, 3; 256 or more own-parity streams Open and unacknowledged, wait; .. When next id + 2 passes 2^32-1,
+-- reply 4": in the order "3, wait, 4, 7"
 unfoldable pub open-rules : Conn → ℕ → Result
 open-rules c now =
     cond (leb (c .config .«max_num_streams») (listedCount (c .slots)))

@@ -133,12 +133,14 @@ synData a h body place now =
     (goAway a protocolError)
     (make a (dataTaken (newInbound (h .«stream_id») initialWindow now) (length body) (contains (h .flags) fin)) body))
 
--- "the last test is credit + 262,144 above 2^32-1, code 1"; "WindowUpdate adds its credit to an inbound one's send window"
+-- "its maximum and both windows are 262,144, and WindowUpdate adds its credit to an inbound one's send window. FIN makes it
+-- RecvClosed"
 abbrev pub openedBy : Header → ℕ → Stream
 openedBy h now =
     let s = newInbound (h .«stream_id») (h .length .0 + initialWindow) now in
     withState s (finish (contains (h .flags) fin) (s .state))
 
+-- "WindowUpdate: the same but M full is code 1, and the last test is credit + 262,144 above 2^32-1, code 1."
 unfoldable pub synUpdate : Acked → Header → Place → ℕ → Result
 synUpdate a h place now =
     synRules a (h .«stream_id») place protocolError
@@ -158,7 +160,8 @@ takenEntry e s finished body = record {
 }
 
 -- "Known, Data: body above the receive window, code 1. Else the window falls by the body; then FIN .., body queued, reader
--- woken." "WindowUpdate: send window past 2^32-1, code 1; else credit added, FIN (waking the reader), writer woken."
+-- woken." "WindowUpdate: send window past 2^32-1, code 1; else credit added, FIN (waking the reader), writer woken." "8 exactly when
+-- the body would be queued and is longer than the room; both undo the ACK step too."
 unfoldable pub takeAt : ℕ → Acked → Header → List ℕ → Received → Result
 takeAt i a h body ProtocolError = goAway a protocolError
 takeAt i a h body (Taken s w) =

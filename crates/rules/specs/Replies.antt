@@ -29,7 +29,7 @@ number reply.Type = 12
 number reply.Body = 13
 number reply.Size = 14
 
--- "nothing changed": the replies 6 to 10, 13 and 14
+-- "nothing changed": the replies 6 to 10, 13 and 14. Contracts and theorems ask it, no rule does.
 abbrev pub leavesAll : Reply → Bool
 leavesAll reply.Done = false
 leavesAll reply.Wait = false
@@ -47,7 +47,7 @@ leavesAll reply.Type = false
 leavesAll reply.Body = true
 leavesAll reply.Size = true
 
--- "replies but 0, 1 and 2 give neither"
+-- "replies but 0, 1 and 2 give neither". Contracts and theorems ask it, no rule does.
 abbrev pub mayGive : Reply → Bool
 mayGive reply.Done = true
 mayGive reply.Wait = true
