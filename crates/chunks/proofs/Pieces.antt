@@ -11,7 +11,7 @@ use lib.Seq.{drop-append-add, drop-drop, take-add, take-at, length-take-le}
 use Rattle.chunks.specs.Chain.{walk, hop, occ, upto}
 use Rattle.chunks.specs.Blocks.{BLOCK, hold, block, bytes, put}
 use Rattle.chunks.specs.Steps.{Lined, Lies, Laid, Gathers, Scatters}
-use Rattle.chunks.specs.declared.Piece.{Piece}
+use Rattle.chunks.specs.declared.copies.Piece.{Piece}
 use Rattle.chunks.proofs.Chains.{occ-append, walk-add, walk-upto, hop-suc, hop-add, hop-upto, length-walk, bytes-append, bytes-same, bytes-upto, length-bytes, upto-in}
 use Rattle.chunks.proofs.Parts.{view-more, put-before, put-after, put-window, put-mid, put-more, put-none, window-part, part-front, length-mid}
 
@@ -32,13 +32,13 @@ stands-first l at from n got h most full =
 
 -- a piece right after the last block: where it starts, and where it ends
 module _ (l : List ℕ) (at x need last node : ℕ) (r : Piece) (stands : Stands l at x need last) (link : node ≡ getD l last 0) (lies : Lies l node need r) where
-  pub piece-starts : hop l at (x / BLOCK) ≡ node
+  piece-starts : hop l at (x / BLOCK) ≡ node
   piece-starts =
       let s = stands .full (omega (arith, lies .some, lies .most)) in
       let e : x / BLOCK ≡ suc (hold x - 1) = omega (arith, s .0, s .1) in
       ap (hop l at) e ∙ hop-suc l at (hold x - 1) ∙ ap (λ (k : ℕ). getD l k 0) (sym (stands .here)) ∙ sym link
 
-  pub piece-stands : Stands l at (x + r .len) (need - r .len) (r .last)
+  piece-stands : Stands l at (x + r .len) (need - r .len) (r .last)
   piece-stands =
       let s = stands .full (omega (arith, lies .some, lies .most)) in
       let e : hold (x + r .len) - 1 ≡ x / BLOCK + (hold (r .len) - 1) = omega (arith, s .0, s .1, lies .some) in
@@ -67,7 +67,7 @@ module _ (l p : List ℕ) (at n j h c node : ℕ) (laid : Laid l p at n) (some :
   count : (i : ℕ) → occ i (walk l at n) ≡ occ i (walk l at j) + occ i (upto node h) + occ i (walk l (hop l node h) c)
   count i = omega (arith, ap (occ i) cut, occ-append i (walk l at j) (upto node h ++ walk l (hop l node h) c), occ-append i (upto node h) (walk l (hop l node h) c))
 
-  pub in-pool : (node + h) * BLOCK ≤ length p
+  in-pool : (node + h) * BLOCK ≤ length p
   in-pool =
       let k : ℕ = node + (h - 1) in
       let i : k < length l = laid .inside k (omega (arith, count k, upto-in k node h (omega arith) (omega arith))) in
@@ -84,7 +84,7 @@ module _ (l p : List ℕ) (at n j h c node : ℕ) (laid : Laid l p at n) (some :
   window : length (take (h * BLOCK) (drop (node * BLOCK) p)) ≡ h * BLOCK
   window = length-take (h * BLOCK) (drop (node * BLOCK) p) ∙ omega (arith, length-drop (node * BLOCK) p, in-pool)
 
-  pub read-piece : (x o m : ℕ) → x ≡ j * BLOCK + o → o + m ≤ h * BLOCK → take m (drop x (bytes p (walk l at n))) ≡ take m (drop (node * BLOCK + o) p)
+  read-piece : (x o m : ℕ) → x ≡ j * BLOCK + o → o + m ≤ h * BLOCK → take m (drop x (bytes p (walk l at n))) ≡ take m (drop (node * BLOCK + o) p)
   read-piece x o m e room =
       let a = bytes p (walk l at j) in
       let y = take (h * BLOCK) (drop (node * BLOCK) p) in
@@ -101,10 +101,10 @@ module _ (l p : List ℕ) (at n j h c node : ℕ) (laid : Laid l p at n) (some :
     unfolding block
     others i none = elim (decLt i node) [ yes q ↦ put-before p b (node * BLOCK + o) (omega (arith, in-pool)) (i * BLOCK) BLOCK (omega arith) | no q ↦ elim (decLt i (node + h)) [ yes r ↦ absurd (omega (arith, upto-in i node h (omega arith) r)) | no r ↦ put-after p b (node * BLOCK + o) (omega (arith, in-pool)) (i * BLOCK) BLOCK (omega arith) ] ]
 
-    pub write-others : (i : ℕ) → occ i (walk l at n) ≡ 0 → block (put p (node * BLOCK + o) b) i ≡ block p i
+    write-others : (i : ℕ) → occ i (walk l at n) ≡ 0 → block (put p (node * BLOCK + o) b) i ≡ block p i
     write-others i none = others i (omega (arith, count i))
 
-    pub write-piece : bytes (put p (node * BLOCK + o) b) (walk l at n) ≡ put (bytes p (walk l at n)) x b
+    write-piece : bytes (put p (node * BLOCK + o) b) (walk l at n) ≡ put (bytes p (walk l at n)) x b
     write-piece =
         let p′ = put p (node * BLOCK + o) b in
         let a = bytes p (walk l at j) in

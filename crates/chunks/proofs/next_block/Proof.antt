@@ -1,6 +1,4 @@
 -- The test's two ways are the definition's. Assumes nothing.
-use mathlib.Core.Path.{sym, ap}
-use mathlib.Core.Bool.{Bool, cond}
 use borrow.Author.Tests.{lt-ltb, le-ltb}
 use Rattle.chunks.proofs.next_block.Statement.{statement}
 use Rattle.chunks.proofs.next_block.Tie as tie

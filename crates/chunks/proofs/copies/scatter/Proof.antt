@@ -11,8 +11,8 @@ use Rattle.chunks.specs.Chain.{hop}
 use Rattle.chunks.specs.Blocks.{BLOCK, hold}
 use Rattle.chunks.specs.Steps.{Scatters}
 use Rattle.chunks.proofs.Pieces.{Stands, stands-first, stands-on, scatter-first, scatter-next}
-use Rattle.chunks.proofs.scatter.Statement.{statement}
-use Rattle.chunks.proofs.scatter.Tie as tie
+use Rattle.chunks.proofs.copies.scatter.Statement.{statement}
+use Rattle.chunks.proofs.copies.scatter.Tie as tie
 
 abbrev Inv-loop : tie.InvT-loop
 Inv-loop links pool₀ at used body n done₀ last₀ pool done last =

@@ -1,13 +1,13 @@
 -- The blocks up to `last` are linked each to the next in the pool; the measure is how many are left to try. Assumes nothing.
 use borrow.Author.Needs.{needs}
-use Prim.Native.Nat.{ℕ, _+_, _-_, _≤_, _<_}
+use Prim.Native.Nat.{_+_, _-_, _≤_, _<_}
 use mathlib.Core.Path.{_≡_}
 use native.Mathlib.Omega.{arith}
 use lib.ListN.{length, getD}
 use Rattle.chunks.specs.Steps.{Lined}
 use Rattle.chunks.proofs.Pieces.{lined-more}
-use Rattle.chunks.proofs.run.Statement.{statement}
-use Rattle.chunks.proofs.run.Tie as tie
+use Rattle.chunks.proofs.copies.run.Statement.{statement}
+use Rattle.chunks.proofs.copies.run.Tie as tie
 
 abbrev Inv-loop : tie.InvT-loop
 Inv-loop links at most a stop last₀ last =

@@ -3,11 +3,10 @@ use mathlib.Core.Path.{_≡_, sym, ap, subst, _∙_}
 use mathlib.Core.List.{List, _++_}
 use Prim.Native.Nat.{ℕ, _≤_}
 use borrow.Author.Needs.{needs}
-use native.Mathlib.Omega.{arith}
 use lib.ListN.{length, take, drop}
 use lib.Seq.{take-length, take-append-seam}
-use Rattle.chunks.proofs.copy.Statement.{statement}
-use Rattle.chunks.proofs.copy.Tie as tie
+use Rattle.chunks.proofs.copies.copy.Statement.{statement}
+use Rattle.chunks.proofs.copies.copy.Tie as tie
 
 fronts : (s rest t : List ℕ) → t ≡ take (length s) s ++ rest → take (length s) t ≡ s
 fronts s rest t e =

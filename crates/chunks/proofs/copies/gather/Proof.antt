@@ -10,8 +10,8 @@ use Rattle.chunks.specs.Blocks.{BLOCK}
 use Rattle.chunks.specs.Steps.{Gathers}
 use Rattle.chunks.proofs.Parts.{part-length, length-mid}
 use Rattle.chunks.proofs.Pieces.{Stands, stands-first, stands-on, gather-first, gather-next}
-use Rattle.chunks.proofs.gather.Statement.{statement}
-use Rattle.chunks.proofs.gather.Tie as tie
+use Rattle.chunks.proofs.copies.gather.Statement.{statement}
+use Rattle.chunks.proofs.copies.gather.Tie as tie
 
 abbrev Inv-loop : tie.InvT-loop
 Inv-loop links pool at from out₀ n got₀ last₀ out got last =
