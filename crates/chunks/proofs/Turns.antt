@@ -1,23 +1,23 @@
--- What a part that is pushed or read, all such parts in turn, and the start, do to a state. Assumes nothing.
+-- What a push, a pop and the start do to a state. Assumes nothing.
 use mathlib.Core.Path.{_≡_, refl, sym, ap, _∙_, subst}
-use mathlib.Core.List.{List, [], _++_, append-assoc, append-nil}
+use mathlib.Core.List.{List, [], _∷_, _++_, append-nil}
 use Prim.Native.Nat.{ℕ, suc, _+_, _-_, _*_, _/_, _%_, min, _≤_, _<_, _^_}
 use native.Mathlib.Numerals.{add-one}
 use native.Mathlib.Omega.{arith}
 use native.Mathlib.Decide.{decLt}
-use lib.ListN.{length, getD, take, drop, length-append, length-take, length-drop}
-use lib.Seq.{length-take-le, take-add, take-at, drop-at}
-use Rattle.chunks.specs.Chain.{walk, occ, upto}
+use borrow.Author.Tests.{lt-ltb, le-ltb}
+use lib.ListN.{length, getD, take, drop, length-take, length-drop, take-append-drop, List·getD-append}
+use lib.Seq.{length-take-le, take-all, take-take, take-at, drop-at, getD-append-add}
+use Rattle.chunks.specs.Chain.{walk, hop, occ, upto}
 use Rattle.chunks.specs.Blocks.{BLOCK, hold, bytes, put}
-use Rattle.chunks.specs.Store.{State, mk, text, content, size, state, Room, Fed, Drawn, Started, Good, Kept}
-use Rattle.chunks.specs.Steps.{opened, Opens, Skips, Read}
+use Rattle.chunks.specs.Store.{State, text, content, nodes, frees, none, size, state, Room, Fed, Drawn, Started, Good, Kept}
+use Rattle.chunks.specs.Steps.{Laid, Gathers, Scatters, Passes, nextBlock}
 use Rattle.chunks.specs.declared.Free.{Free}
 use Rattle.chunks.specs.declared.Queue.{Queue}
-use Rattle.chunks.specs.declared.Grown.{Grown}
 use Rattle.chunks.specs.declared.Pushed.{Pushed}
-use Rattle.chunks.proofs.Chains.{hit-same, length-walk, length-bytes, walk-upto, upto-in, upto-past}
-use Rattle.chunks.proofs.Parts.{part-front}
-use Rattle.chunks.proofs.Moves.{kept-refl, kept-trans, fill-last}
+use Rattle.chunks.proofs.Chains.{occ-append, walk-add, hop-suc, hop-add, hop-nth, length-walk, bytes-append, length-bytes, walk-upto, upto-in, upto-past}
+use Rattle.chunks.proofs.Parts.{view-push, view-more}
+use Rattle.chunks.proofs.Moves.{kept-refl, kept-trans, taken}
 
 -- ---- all blocks are free
 
@@ -45,110 +45,107 @@ started l n f e₁ e₂ e₃ h =
     inside-of : (i : ℕ) → 0 < 0 + occ i (walk l (f .head) (f .count)) → (n ≤ i → occ i (walk l (f .head) (f .count)) ≡ 0) → i < length l
     inside-of i p hi = elim (decLt i n) [ yes q ↦ omega arith | no q ↦ absurd (omega (arith, hi (omega arith))) ]
 
--- ---- a part is pushed
+-- ---- a push
 
-pub fed : (l p l′ p′ : List ℕ) (f : Free) (q : Queue) (g : Grown) (b : List ℕ) (used u : ℕ) → used ≡ (q .from + q .unread) % BLOCK → u ≡ (q .unread + length b) % (2 ^ 32)
-    → used + length b ≤ BLOCK → 0 < length b → Opens l f q l′ g → (g .tail * BLOCK + used + length b ≤ length p → p′ ≡ put p (g .tail * BLOCK + used) b)
-    → Good (state l p f q) → Room (state l p f q) (length b) → Fed (state l p f q) (state l′ p′ (g .free) (record { head = g .head; tail = g .tail; from = q .from; unread = u })) b
-fed l p l′ p′ f q g b used u e₁ e₂ h some opens puts good room =
+pub fed-none : (s : State) (b : List ℕ) → length b ≡ 0 → Good s → Fed s s b
+fed-none s [] e g = record { kept = kept-refl s g; wrote = sym (append-nil (text s)); grew = omega arith; stays = refl }
+fed-none s (x ∷ b) e g = absurd (omega arith)
+
+-- all blocks are one chain, the queue's first: b goes to where the queue ends, and the blocks up to its last byte are the queue's
+module _ (l p l′ : List ℕ) (f all : Free) (q : Queue) (n : ℕ) (good : Good (state l p f q)) (room : Room (state l p f q) n) (some : 0 < n) (gone : Kept (state l p f q) (state l′ p all none)) (chain : frees l′ all ≡ nodes l q ++ frees l f) where
+  start : (used : ℕ) → used ≡ (q .from + q .unread) % BLOCK → hop l′ (all .head) ((q .from + q .unread) / BLOCK) ≡ nextBlock used (q .tail) (f .head)
+  start used e =
+      let j = (q .from + q .unread) / BLOCK in
+      let k = length-walk l (q .head) (size q) in
+      hop-nth l′ (all .head) (all .count) j (omega (arith, gone .total)) ∙ ap (λ (x : List ℕ). getD x j 0) chain
+      ∙ elim (decLt 0 used) [ yes h ↦ rw (lt-ltb 0 used h) (List·getD-append (nodes l q) (frees l f) 0 j (omega arith) ∙ sym (hop-nth l (q .head) (size q) j (omega arith)) ∙ good .last j (omega arith)) | no h ↦ rw (le-ltb 0 used (omega arith)) (let z : j ≡ length (nodes l q) + 0 = omega arith in ap (λ (i : ℕ). getD (nodes l q ++ frees l f) i 0) z ∙ getD-append-add (nodes l q) (frees l f) 0 0 ∙ sym (hop-nth l (f .head) (f .count) 0 (omega arith))) ]
+
+  module _ (need c : ℕ) (cut : all .count ≡ need + c) (long : q .from + q .unread ≤ need * BLOCK) where
+    part : (i : ℕ) → occ i (walk l′ (all .head) need) ≤ occ i (walk l′ (all .head) (all .count))
+    part i = omega (arith, ap (λ (k : ℕ). occ i (walk l′ (all .head) k)) cut, ap (occ i) (walk-add l′ (all .head) need c), occ-append i (walk l′ (all .head) need) (walk l′ (hop l′ (all .head) need) c))
+
+    laid : Laid l′ p (all .head) need
+    laid = record { once = λ i. omega (arith, part i, gone .good .once i); inside = λ i h. gone .good .inside i (omega (arith, part i)); pooled = gone .good .pooled }
+
+    sized : length (bytes p (walk l′ (all .head) need)) ≡ need * BLOCK
+    sized = length-bytes p (walk l′ (all .head) need) (length l′) (gone .good .pooled) (laid .inside) ∙ ap (λ (k : ℕ). k * BLOCK) (length-walk l′ (all .head) need)
+
+    -- the queue's bytes are the chain's first
+    first : take (q .unread) (drop (q .from) (bytes p (walk l′ (all .head) need))) ≡ content l p q
+    first =
+        let x = bytes p (walk l′ (all .head) need) in
+        let y = bytes p (walk l′ (hop l′ (all .head) need) c) in
+        let e : x ++ y ≡ bytes p (nodes l q) ++ bytes p (frees l f) = sym (bytes-append p (walk l′ (all .head) need) (walk l′ (hop l′ (all .head) need) c)) ∙ ap (bytes p) (sym (ap (walk l′ (all .head)) cut ∙ walk-add l′ (all .head) need c) ∙ chain) ∙ bytes-append p (nodes l q) (frees l f) in
+        let k = length-bytes p (nodes l q) (length l) (good .pooled) (λ i h. good .inside i (omega arith)) in
+        sym (view-more x y (q .from) (q .unread) (omega (arith, sized)))
+        ∙ ap (λ (v : List ℕ). take (q .unread) (drop (q .from) v)) e
+        ∙ view-more (bytes p (nodes l q)) (bytes p (frees l f)) (q .from) (q .unread) (omega (arith, length-walk l (q .head) (size q)))
+
+le-zero : {a b : ℕ} → a ≤ b → b ≡ 0 → a ≡ 0
+le-zero h e = omega arith
+
+cut-after : (a n m k c : ℕ) → a ≡ n → m ≡ k → k ≤ n → n < 2 ^ 32 → c ≡ (n - k) % (2 ^ 32) → a ≡ m + c
+cut-after a n m k c e₁ e₂ h fits e₃ = omega arith
+
+-- the blocks that e bytes and then n more are in
+ends : (e n used x : ℕ) → used ≡ e % BLOCK → x ≡ e + n → 0 < n
+    → (e / BLOCK + (hold (used + n) - 1) ≡ hold x - 1) × (suc (hold x - 1) ≡ hold x) × (e / BLOCK < hold x) × (e / BLOCK * BLOCK + (used + n) ≤ hold x * BLOCK) × (e / BLOCK * BLOCK + used ≡ e) × (e ≤ hold x * BLOCK)
+ends e n used x e₁ e₂ some = (omega arith, omega arith, omega arith, omega arith, omega arith, omega arith)
+
+pub fed : (l p l′ p′ : List ℕ) (f all : Free) (q : Queue) (b : List ℕ) (used at tail next count u : ℕ) → used ≡ (q .from + q .unread) % BLOCK → at ≡ nextBlock used (q .tail) (f .head) → tail ≡ hop l′ at (hold (used + length b) - 1) → next ≡ getD l′ tail 0
+    → count ≡ (f .count + size q - hold (q .from + q .unread + length b)) % (2 ^ 32) → u ≡ (q .unread + length b) % (2 ^ 32) → 0 < length b → length p′ ≡ length p → Scatters l′ p at used (used + length b) b p′
+    → Good (state l p f q) → Room (state l p f q) (length b) → Kept (state l p f q) (state l′ p all none) → frees l′ all ≡ nodes l q ++ frees l f
+    → Fed (state l p f q) (state l′ p′ (record { head = next; count = count }) (record { head = all .head; tail = tail; from = q .from; unread = u })) b
+fed l p l′ p′ f all q b used at tail next count u e₁ e₂ e₃ e₄ e₅ e₆ some same scatters good room gone chain =
     let e : ℕ = q .from + q .unread in
+    let grew : u ≡ q .unread + length b = omega arith in
+    let sum : q .from + u ≡ e + length b = omega arith in
+    let at-end = ends e (length b) used (q .from + u) e₁ sum some in
+    let need : ℕ = hold (q .from + u) in
+    let total : all .count ≡ f .count + size q = omega (arith, gone .total) in
+    let cut : all .count ≡ need + count = cut-after (all .count) (f .count + size q) need (hold (e + length b)) count total (ap hold sum) (room .0) (good .fits) e₅ in
     let s = state l p f q in
-    let s₁ = opened l′ p g q in
-    let t = state l′ p′ (g .free) (record { head = g .head; tail = g .tail; from = q .from; unread = u }) in
-    let o : Kept s s₁ × (text s₁ ≡ text s) = opens p good (omega arith) in
-    let e₃ : u ≡ q .unread + length b = omega (arith, good .fits) in
-    let w : Kept s₁ t × (text t ≡ text s₁ ++ b) = fill-last l′ p p′ (g .free .head) (g .free .count) (g .head) (g .tail) (e / BLOCK + 1) (q .from) (q .unread) (hold (q .from + u)) u (e / BLOCK) used b (add-one (e / BLOCK)) (omega arith) e₃ (omega arith) h puts (o .0 .good) in
+    let s₁ = state l′ p all none in
+    let x = bytes p (walk l′ (all .head) need) in
+    let found : hop l′ (all .head) (e / BLOCK) ≡ at = start l p l′ f all q (length b) good room some gone chain used e₁ ∙ sym e₂ in
+    let last : tail ≡ hop l′ (all .head) (need - 1) = e₃ ∙ ap (λ (i : ℕ). hop l′ i (hold (used + length b) - 1)) (sym found) ∙ sym (hop-add l′ (all .head) (e / BLOCK) (hold (used + length b) - 1)) ∙ ap (hop l′ (all .head)) (at-end .0) in
+    let after : next ≡ hop l′ (all .head) need = e₄ ∙ ap (λ (i : ℕ). getD l′ i 0) last ∙ sym (hop-suc l′ (all .head) (need - 1)) ∙ ap (hop l′ (all .head)) (at-end .1) in
+    let w = scatters (all .head) need (e / BLOCK) (at-end .2) (laid l p l′ f all q (length b) good room some gone chain need count cut (at-end .5)) found (at-end .3) in
+    let size′ : e ≤ length x = subst (λ (k : ℕ). e ≤ k) (sym (sized l p l′ f all q (length b) good room some gone chain need count cut (at-end .5))) (at-end .5) in
+    let kept₁ = taken l′ p p′ (all .head) (all .count) need count (q .from) u (gone .good) cut same (good .starts) (λ i h. w .1 i (le-zero (part l p l′ f all q (length b) good room some gone chain need count cut (at-end .5) i) h)) in
     record {
-      kept = kept-trans s s₁ t (o .0) (w .0);
-      wrote = w .1 ∙ ap (λ (x : List ℕ). x ++ b) (o .1);
-      grew = e₃;
+      kept = kept-trans s s₁ _ gone (rw (last, after) kept₁);
+      wrote =
+          ap (λ (v : List ℕ). take u (drop (q .from) v)) (w .0 ∙ ap (λ (i : ℕ). put x i b) (at-end .4))
+          ∙ ap (λ (i : ℕ). take i (drop (q .from) (put x e b))) grew
+          ∙ view-push (take e x) b (drop (e + length b) x) (drop e x) (q .from) (q .unread) (length-take-le e x size′)
+          ∙ ap (λ (v : List ℕ). take (q .unread) (drop (q .from) v) ++ b) (take-append-drop e x)
+          ∙ ap (λ (v : List ℕ). v ++ b) (first l p l′ f all q (length b) good room some gone chain need count cut (at-end .5));
+      grew = grew;
       stays = refl;
     }
 
-pub fed-none : (s : State) → Good s → Fed s s []
-fed-none s g = record { kept = kept-refl s g; wrote = sym (append-nil (text s)); grew = omega arith; stays = refl }
+-- ---- a pop
 
-pub fed-more : (s t u : State) (a b : List ℕ) → Fed s t a → Fed t u b → Fed s u (a ++ b)
-fed-more s t u a b x y = record {
-  kept = kept-trans s t u (x .kept) (y .kept);
-  wrote = y .wrote ∙ ap (λ (z : List ℕ). z ++ b) (x .wrote) ∙ append-assoc (text s) a b;
-  grew = omega (arith, x .grew, y .grew, length-append a b);
-  stays = y .stays ∙ x .stays;
-}
-
--- a turn of push: what was pushed before, and the part from done to e
-pub fed-turn : (s₀ s t : State) (body : List ℕ) (done e : ℕ) → done ≤ e → e ≤ length body
-    → (Good s₀ → Room s₀ (length body) → Fed s₀ s (take done body))
-    → (Good s → Room s (length (take (e - done) (drop done body))) → Fed s t (take (e - done) (drop done body)))
-    → Good s₀ → Room s₀ (length body) → Fed s₀ t (take e body)
-fed-turn s₀ s t body done e h₁ h₂ was turn good room =
-    let x = was good room in
-    let l₁ = length-take-le done body (omega arith) in
-    let l₂ = length-take (e - done) (drop done body) in
-    let y = turn (x .kept .good) (omega (arith, x .grew, x .stays, x .kept .total, length-drop done body)) in
-    let e₁ : done + (e - done) ≡ e = omega arith in
-    let e₂ : take done body ++ take (e - done) (drop done body) ≡ take e body = sym (take-add done (e - done) body) ∙ ap (λ (k : ℕ). take k body) e₁ in
-    subst (λ (b : List ℕ). Fed s₀ t b) e₂ (fed-more s₀ s t (take done body) (take (e - done) (drop done body)) x y)
-
--- ---- a part is read
-
-pub read : (l p l′ : List ℕ) (f : Free) (q : Queue) (r : Pushed) (out out′ : List ℕ) → 0 < length out → length out ≤ q .unread → q .from + length out ≤ BLOCK
-    → (q .head * BLOCK + q .from + length out ≤ length p → out′ ≡ take (length out) (drop (q .head * BLOCK + q .from) p))
-    → length out′ ≡ length out → r .queue .unread + length out ≡ q .unread → r .queue .from ≡ (q .from + length out) % BLOCK → Skips l f q (length out) l′ r
-    → Good (state l p f q) → Read (state l p f q) (state l′ p (r .free) (r .queue)) out′
-read l p l′ f q r out out′ some h₁ h₂ drained e₁ e₂ e₅ skips good =
-    let k = skips p good some in
-    let e₃ : size q ≡ suc (size q - 1) = omega arith in
-    let g′ : Good (mk l p (f .head) (f .count) (q .head) (q .tail) (suc (size q - 1)) (q .from) (q .unread)) = subst (λ (n : ℕ). Good (mk l p (f .head) (f .count) (q .head) (q .tail) n (q .from) (q .unread))) e₃ good in
-    let i : q .head < length l = g′ .inside (q .head) (omega (arith, hit-same (q .head))) in
-    let e₄ = drained (omega (arith, good .pooled)) in
+-- the first n bytes are copied, then passed over
+pub drawn : (l p l′ : List ℕ) (f : Free) (q : Queue) (r : Pushed) (out part : List ℕ) (n from : ℕ) → n ≡ min (length out) (q .unread) → from ≡ q .from % BLOCK → length part ≡ length (take n out)
+    → Gathers l p (q .head) from (from + length (take n out)) (length (take n out)) part → r .queue .unread + n ≡ q .unread → Passes l f q n l′ r
+    → Good (state l p f q) → Drawn (state l p f q) (state l′ p (r .free) (r .queue)) out (part ++ drop n out) n
+drawn l p l′ f q r out part n from e₁ e₂ same gathers left passes good =
+    let k = passes p good in
+    let m : length (take n out) ≡ n = length-take-le n out (omega arith) in
+    let x = bytes p (nodes l q) in
+    let e₃ : from ≡ q .from = omega (arith, good .starts) in
+    let laid : Laid l p (q .head) (size q) = record { once = λ i. omega (arith, good .once i); inside = λ i h. good .inside i (omega arith); pooled = good .pooled } in
+    let got : 0 < n → take n part ≡ take n (content l p q) = λ some. subst (λ (i : ℕ). take i part ≡ take i (drop from x)) m (gathers (size q) (omega arith) laid (omega arith)) ∙ ap (λ (i : ℕ). take n (drop i x)) e₃ ∙ sym (take-take n (q .unread) (drop (q .from) x) (omega arith)) in
     record {
       kept = k .0;
-      gave = k .1 ∙ ap (λ (x : List ℕ). x ++ content l′ p (r .queue)) (sym e₄);
-      left = omega arith;
-      next = e₅ ∙ ap (λ (x : ℕ). (q .from + x) % BLOCK) (sym e₁);
+      gave = take-at part (drop n out) n (same ∙ m) ∙ sym (take-all n part (omega arith)) ∙ elim (decLt 0 n) [ yes h ↦ got h | no h ↦ let z : n ≡ 0 = omega arith in ap (λ (i : ℕ). take i part) z ∙ sym (ap (λ (i : ℕ). take i (content l p q)) z) ];
+      rest = drop-at part (drop n out) n (same ∙ m);
+      keeps = k .1;
+      left = left;
+      next = k .2;
     }
-
-pub read-none : (s : State) → Good s → Read s s []
-read-none s g = record { kept = kept-refl s g; gave = refl; left = omega arith; next = omega (arith, g .starts) }
-
-pub read-more : (s t u : State) (a b : List ℕ) → Read s t a → Read t u b → Read s u (a ++ b)
-read-more s t u a b x y = record {
-  kept = kept-trans s t u (x .kept) (y .kept);
-  gave = x .gave ∙ ap (λ (z : List ℕ). a ++ z) (y .gave) ∙ sym (append-assoc a b (text u));
-  left = omega (arith, x .left, y .left, length-append a b);
-  next = omega (arith, x .next, y .next, length-append a b);
-}
-
--- a turn of pop: what was read before, and the part from done to e
-pub read-turn : (s₀ s t : State) (out part : List ℕ) (done e : ℕ) → done ≤ e → e ≤ length out → length part ≡ e - done
-    → (Good s₀ → Read s₀ s (take done out)) → (Good s → Read s t part) → Good s₀ → Read s₀ t (take e (take done out ++ (part ++ drop (e - done) (drop done out))))
-read-turn s₀ s t out part done e h₁ h₂ h₃ was turn good =
-    let x = was good in
-    rw (part-front out part done e h₁ h₂ h₃) (read-more s₀ s t (take done out) part x (turn (x .kept .good)))
-
--- what was read is the front of out
-pub drawn : (s t : State) (out out′ : List ℕ) (n : ℕ) → n ≤ length out′ → drop n out′ ≡ drop n out → Read s t (take n out′) → Drawn s t out out′ n
-drawn s t out out′ n h rest r =
-    let l : length (take n out′) ≡ n = length-take-le n out′ h in
-    record {
-      kept = r .kept;
-      gave = sym (ap (λ (x : List ℕ). take n x) (r .gave) ∙ take-at (take n out′) (text t) n l);
-      rest = rest;
-      keeps = sym (ap (λ (x : List ℕ). drop n x) (r .gave) ∙ drop-at (take n out′) (text t) n l);
-      left = omega (arith, r .left);
-      next = λ some. r .next ∙ ap (λ (x : ℕ). (s .from + x) % BLOCK) l;
-    }
-
-pub drawn-settled : (s t u : State) (out out′ : List ℕ) (n : ℕ) → Drawn s t out out′ n → Kept t u → text u ≡ text t → u .unread ≡ t .unread → (0 < t .unread → u .from ≡ t .from) → Drawn s u out out′ n
-drawn-settled s t u out out′ n d k e₁ e₂ e₃ = record {
-  kept = kept-trans s t u (d .kept) k;
-  gave = d .gave;
-  rest = d .rest;
-  keeps = e₁ ∙ d .keeps;
-  left = omega (arith, d .left);
-  next = λ some. let h : 0 < t .unread = omega arith in e₃ h ∙ d .next h;
-}
 
 -- there are as many unread bytes as the queue says
 pub content-length : (l p : List ℕ) (f : Free) (q : Queue) → Good (state l p f q) → length (content l p q) ≡ q .unread

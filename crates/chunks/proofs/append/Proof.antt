@@ -1,103 +1,100 @@
--- The first `done` bytes of the body are pushed; the measure is how many are left. Assumes nothing.
+-- The blocks become one chain, the body is copied to where the queue ends, and the chain is cut after it. Assumes nothing.
 use borrow.Author.Needs.{needs}
-use Prim.Native.Nat.{ℕ, _+_, _-_, _≤_}
-use mathlib.Core.Path.{_≡_, refl, subst, _∙_}
-use mathlib.Core.List.{List}
-use native.Mathlib.Nat.{le-add-right}
-use lib.Seq.{take-all}
+use Prim.Native.Nat.{ℕ, _+_, _-_, _%_, _^_}
+use mathlib.Core.Path.{_≡_, ap}
 use native.Mathlib.Omega.{arith}
-use lib.ListN.{length, take}
-use Rattle.chunks.specs.Store.{state, Good, Room, Fed}
-use Rattle.chunks.proofs.Turns.{fed-none, fed-turn}
+use lib.ListN.{length}
+use Rattle.chunks.specs.Blocks.{BLOCK, hold}
+use Rattle.chunks.specs.Store.{size}
+use Rattle.chunks.proofs.Turns.{fed}
 use Rattle.chunks.proofs.append.Statement.{statement}
 use Rattle.chunks.proofs.append.Tie as tie
 
-abbrev Inv-loop : tie.InvT-loop
-Inv-loop links₀ pool₀ body free₀ queue₀ done₀ links pool free queue done =
-    (done ≤ length body)
-    × (length links ≡ length links₀)
-    × (length pool ≡ length pool₀)
-    × (Good (state links₀ pool₀ free₀ queue₀) → Room (state links₀ pool₀ free₀ queue₀) (length body) → Fed (state links₀ pool₀ free₀ queue₀) (state links pool free queue) (take done body))
-
-abbrev μ-loop : tie.MeasureT-loop
-μ-loop links₀ pool₀ body free₀ queue₀ done₀ links pool free queue done = length body - done
-
-loop-holds : tie.Need-loop-holds Inv-loop μ-loop
-loop-holds c = (search needs, refl, refl, λ g r. fed-none _ g)
-
-end-requires : tie.Need-end-requires Inv-loop μ-loop
+end-requires : tie.Need-end-requires
 end-requires c κs = search needs
 
-sub-room : tie.Need-sub-room Inv-loop μ-loop
-sub-room c = search needs
+next-block-requires : tie.Need-next-block-requires
+next-block-requires c κs = search needs
 
-sub-least : tie.Need-sub-least Inv-loop μ-loop
-sub-least c = search needs
+cast-low32 : tie.Need-cast-low32
+cast-low32 c = search needs
 
-least-requires : tie.Need-least-requires Inv-loop μ-loop
-least-requires c κs = search needs
+hold-requires : tie.Need-hold-requires
+hold-requires c κs = search needs
 
-add-e : tie.Need-add-e Inv-loop μ-loop
-add-e c = search needs
+add-low32 : tie.Need-add-low32
+add-low32 c = search needs
 
-sub-push-part : tie.Need-sub-push-part Inv-loop μ-loop
-sub-push-part c = search needs
+add-hold : tie.Need-add-hold
+add-hold c = search needs
 
-part-push-part-start : tie.Need-part-push-part-start Inv-loop μ-loop
-part-push-part-start c = search needs
+hold-requires-2 : tie.Need-hold-requires-2
+hold-requires-2 c κs = search needs
 
-part-push-part-end : tie.Need-part-push-part-end Inv-loop μ-loop
-part-push-part-end c = search needs
+sub-low32 : tie.Need-sub-low32
+sub-low32 c = search needs
 
-push-part-requires : tie.Need-push-part-requires Inv-loop μ-loop
-push-part-requires c κs = search needs
+low32-requires : tie.Need-low32-requires
+low32-requires c κs = search needs
 
-loop-less : tie.Need-loop-less Inv-loop μ-loop
-loop-less c = search needs
+discard-requires : tie.Need-discard-requires
+discard-requires c κs = search needs
 
-loop-again : tie.Need-loop-again Inv-loop μ-loop
-loop-again c =
-    let a = c .before .before .before .before .before .before .before .before .before .before .before .before .before .before .before .before .before .args in
-    let v = c .before .before .before .before .before .before .before .before .before .before .before .before .before .loop in
-    let p = c .before .before .before .before .before .before .push-part in
-    let e = v .done + c .before .before .before .before .before .before .before .before .before .before .least .result in
-    let l : e ≤ length (a .body .now) = omega (arith, c .before .before .before .before .before .before .before .before .before .before .least .ensures, c .before .before .before .before .before .before .before .before .before .before .before .before .loop-test .taken) in (
-      l,
-      p .kept .0 ∙ v .inv .1,
-      p .kept .1 .0 ∙ v .inv .2,
-      fed-turn (state (a .links .now) (a .pool .now) (a .f) (a .q)) (state (v .links) (v .pool) (v .free) (v .queue)) (state (p .last .0) (p .last .1 .0) (p .result .free) (p .result .queue)) (a .body .now) (v .done) e (le-add-right (v .done) _) l (v .inv .3) (p .ensures),
-    )
+scatter-requires : tie.Need-scatter-requires
+scatter-requires c κs = search needs
 
-same-length : tie.Need-same-length Inv-loop μ-loop
+link-requires : tie.Need-link-requires
+link-requires c κs = search needs
+
+cast-low32-2 : tie.Need-cast-low32-2
+cast-low32-2 c = search needs
+
+add-low32-2 : tie.Need-add-low32-2
+add-low32-2 c = search needs
+
+low32-requires-2 : tie.Need-low32-requires-2
+low32-requires-2 c κs = search needs
+
+same-length : tie.Need-same-length
 same-length c = search needs
 
-same-length-2 : tie.Need-same-length-2 Inv-loop μ-loop
+same-length-2 : tie.Need-same-length-2
 same-length-2 c = search needs
 
-returns : tie.Need-returns Inv-loop μ-loop
+returns : tie.Need-returns
 returns c good room =
-    let a = c .before .before .before .before .before .args in
-    let v = c .before .loop in
-    subst (λ (x : List ℕ). Fed (state (a .links .now) (a .pool .now) (a .f) (a .q)) (state (v .links) (v .pool) (v .free) (v .queue)) x) (take-all (v .done) (a .body .now) (c .loop-test .left)) (v .inv .3 good room)
+    let x = c .before .before .before .before .before .before .before .before .before .before .before in
+    let d = x .discard in
+    let w = x .before .before in
+    let y = x .before .before .before .before .before .before .before in
+    let a = y .before .before .before .before .args in
+    let z = c .before .before .before .before .before .before .scatter in
+    let e = y .end .ensures in
+    let n = length (a .body .now) in
+    let count : w .low32 .result ≡ (a .f .count + size (a .q) - hold (a .q .from + a .q .unread + n)) % (2 ^ 32) = omega (arith, w .low32 .ensures, w .before .hold2 .ensures, w .before .before .hold .ensures) in
+    let k = d .ensures (a .pool .now) good in
+    fed (a .links .now) (a .pool .now) (d .last .0) (z .last .1 .0) (a .f) (d .result) (a .q) (a .body .now) (y .end .result % BLOCK) (w .before .before .before .before .next-block .result) (z .result) (c .before .before .link .result) (w .low32 .result) (c .low322 .result)
+    (ap (λ (i : ℕ). i % BLOCK) e) (w .before .before .before .before .next-block .ensures) (z .ensures .0) (c .before .before .link .ensures) count (c .low322 .ensures) (y .before .before .before .before .pre .0) (z .kept .1 .0) (z .ensures .1) good room (k .0) (k .1)
 
 pub append-spec : {M : Type 1} → statement M
 append-spec =
     tie.close
     (tie.spec
-    Inv-loop
-    μ-loop
-    loop-holds
     end-requires
-    sub-room
-    sub-least
-    least-requires
-    add-e
-    sub-push-part
-    part-push-part-start
-    part-push-part-end
-    push-part-requires
-    loop-less
-    loop-again
+    next-block-requires
+    cast-low32
+    hold-requires
+    add-low32
+    add-hold
+    hold-requires-2
+    sub-low32
+    low32-requires
+    discard-requires
+    scatter-requires
+    link-requires
+    cast-low32-2
+    add-low32-2
+    low32-requires-2
     same-length
     same-length-2
     returns)
