@@ -8,13 +8,13 @@ ghost use Rattle.trace.specs.Output.{kept};
 ghost use Rattle.trace.specs.Turns.{Lacks};
 ghost use Rattle.replay.specs.Places.{placeOf, afterRun, Sound, Roomy, Nears, Stays, Fed, Closes, Ends, GoesOn, Played, Inside};
 use connection::Connection;
-use trace_lines::Put;
 use connection_open::Created;
 use rules::Settings;
 use trace::Begun;
 use trace::Place;
 use trace::Report;
 use trace::Stop;
+use trace_lines::Put;
 
 // Where the program stands: the events applied, the input read and not yet taken, the lines not yet written, and whether the
 // input has ended and all is done.
