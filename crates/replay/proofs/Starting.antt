@@ -14,9 +14,9 @@ use Rattle.rules.specs.declared.Config.{Config}
 use Rattle.rules.specs.declared.Checked.{Checked}
 use Rattle.rules.specs.declared.Checked.the-variants as settings
 use Rattle.trace_events.specs.Format.{settingsAt}
-use Rattle.trace_events.specs.Calls.{TypedIn}
-use Rattle.trace_events.specs.declared.Typed.{Typed}
-use Rattle.trace_events.specs.declared.Typed.the-variants as typed
+use Rattle.trace_events.specs.Calls.{PreambleIn}
+use Rattle.trace_events.specs.declared.Preamble.{Preamble}
+use Rattle.trace_events.specs.declared.Preamble.the-variants as preamble
 use Rattle.trace_events.proofs.Settings.{settings-in}
 use Rattle.trace.specs.Output.{isSmall, sizesOf, judgedAs, begunAs}
 use Rattle.trace.specs.declared.Stop.the-variants as stop
@@ -66,7 +66,7 @@ module _ (t : Settings) (z : Sizes) (n : ℕ) where
   pub begun-fits : (s : List ℕ) → begunAs (settingsAt s) ≡ begun.Fine t z n → Fits z × (n ≤ length s)
   begun-fits s e = go (settingsAt s) (settings-in s) e
     where
-      go : (x : Typed) → TypedIn s x → begunAs x ≡ begun.Fine t z n → Fits z × (n ≤ length s)
-      go (typed.Settings u m) h q = let g = judged u m (checked u) q in (g .0, omega (arith, g .1, h .1))
-      go typed.Short h q = other (begun.Stop stop.Short) (λ x. x) q
-      go typed.Bad h q = other (begun.Stop stop.Bad) (λ x. x) q
+      go : (x : Preamble) → PreambleIn s x → begunAs x ≡ begun.Fine t z n → Fits z × (n ≤ length s)
+      go (preamble.Settings u m) h q = let g = judged u m (checked u) q in (g .0, omega (arith, g .1, h .1))
+      go preamble.Short h q = other (begun.Stop stop.Short) (λ x. x) q
+      go preamble.Bad h q = other (begun.Stop stop.Bad) (λ x. x) q

@@ -2,7 +2,7 @@
 -- only a read gives bytes. Assumes nothing.
 use mathlib.Core.Path.{_≡_, refl, sym, ap, subst, _∙_}
 use mathlib.Core.Bool.{Bool, true, false, cond}
-use mathlib.Core.List.{List, [], _∷_, _++_, append-assoc}
+use mathlib.Core.List.{List, _++_, append-assoc}
 use Prim.Native.Nat.{ℕ, _+_, _-_, _≤_, _<_}
 use native.Mathlib.Omega.{arith}
 use lib.Dec.{ltb}
@@ -27,13 +27,10 @@ use Rattle.connection_frame.specs.Handles as frames
 use Rattle.rules.specs.Calls.{readRules, writeRules, closeRules, dropRules}
 use Rattle.stream.specs.declared.Sent.{Sent}
 use Rattle.connection_read.specs.Promises as reading
-use Rattle.trace_events.specs.Calls.{Found, call, short, bad, part, foundIn}
-use types.Run.{OneOf, miss}
-use denote.Enum.Declared.{tagOf}
-use Rattle.trace_events.proofs.Event.{the-type}
+use Rattle.trace_events.specs.Calls.{part, callOf, callOn}
 use Rattle.trace_events.specs.declared.Event.{Event}
-use Rattle.trace_events.specs.declared.Event.the-variants as event
-use Rattle.trace.specs.Applies.{slotOf, Carried, Applied, Applies}
+use Rattle.trace_events.specs.declared.Kind.the-variants as kinds
+use Rattle.trace.specs.Applies.{slotOf, Applied, Applies}
 use Rattle.trace.proofs.Silent.{Silent, Headless, tick-silent, frame-silent, open-silent, open-headless, gone-silent, gone-headless, write-silent, close-silent, drop-silent}
 
 -- ---- a slot above every K
@@ -52,57 +49,7 @@ module _ (x : Conn) (now n : ℕ) (rule : ℕ → Result) where
       go true q = out-of-range x 4294967295 now (rule 4294967295) top ∙ sym (out-of-range x n now (rule n) (far (ltb-true _ _ q)))
       go false q = refl
 
--- ---- a call
-
-same-call : (x y : Call) (p q : ℕ) → call y q ≡ call x p → y ≡ x
-same-call x y p q e = cc
-
-abbrev pub NoCall : Found → Type 0
-NoCall (call x next) = ⊥
-NoCall short = Unit {0}
-NoCall bad = Unit {0}
-
--- ---- the arms of the dispatch, by the tags of their events
-
-abbrev leftTags : List ℕ
-leftTags = 1 ∷ 3 ∷ 8 ∷ 9 ∷ []
-
-abbrev refusedTags : List ℕ
-refusedTags = 0 ∷ 2 ∷ 4 ∷ 5 ∷ 6 ∷ 7 ∷ 8 ∷ 9 ∷ []
-
--- what `apply` leaves to `carry`
-pub left-over : (e : Event) → OneOf leftTags (tagOf the-type e) → Carried e
-left-over (event.Tick now q) h = miss leftTags 0 tt h
-left-over (event.Frame now head body q) h = tt
-left-over (event.Open now q) h = miss leftTags 2 tt h
-left-over (event.Read now slot count q) h = tt
-left-over (event.Write now slot start q) h = miss leftTags 4 tt h
-left-over (event.Close now slot q) h = miss leftTags 5 tt h
-left-over (event.Drop now slot q) h = miss leftTags 6 tt h
-left-over (event.Gone now q) h = miss leftTags 7 tt h
-left-over event.Short h = tt
-left-over event.Bad h = tt
-
--- what `carry` refuses stands for no call
-pub no-carry : (s : List ℕ) (e : Event) → OneOf refusedTags (tagOf the-type e) → Carried e → NoCall (foundIn s e)
-no-carry s (event.Tick now q) h k = absurd k
-no-carry s (event.Frame now head body q) h k = absurd (miss refusedTags 1 tt h)
-no-carry s (event.Open now q) h k = absurd k
-no-carry s (event.Read now slot count q) h k = absurd (miss refusedTags 3 tt h)
-no-carry s (event.Write now slot start q) h k = absurd k
-no-carry s (event.Close now slot q) h k = absurd k
-no-carry s (event.Drop now slot q) h k = absurd k
-no-carry s (event.Gone now q) h k = absurd k
-no-carry s event.Short h k = tt
-no-carry s event.Bad h k = tt
-
 module _ (c : Connection) (t l p sent : List ℕ) where
-  -- the event stands for this call
-  made : (s : List ℕ) (e : Event) (y : Call) (q : ℕ) (d : Done) (t′ l′ p′ sent′ bytes′ : List ℕ) → foundIn s e ≡ call y q
-      → (Valid c t l p → length sent ≡ 12 → Applied c t l p sent y d t′ l′ p′ sent′ bytes′) → Applies c t l p sent s e d t′ l′ p′ sent′ bytes′
-  made s e y q d t′ l′ p′ sent′ bytes′ f a x next g v w =
-      subst (λ (z : Call). Applied c t l p sent z d t′ l′ p′ sent′ bytes′) (same-call x y next q (sym f ∙ g)) (a v w)
-
   module _ (x : Call) (d : Done) (t′ l′ p′ sent′ bytes′ : List ℕ) where
     -- a call that reads no bytes
     quiet : Follows c t l p (step (absOf c t l p) x) d t′ l′ p′ → sent′ ≡ sentAfter (d .answer .sent) sent → Silent (step (absOf c t l p) x)
@@ -145,74 +92,69 @@ module _ (c : Connection) (t l p sent : List ℕ) where
 
   module _ (s : List ℕ) (e : Event) (d : Done) (t′ l′ p′ sent′ bytes′ : List ℕ) where
     -- the event's call x, which reads no bytes and is made as y: another name of its slot at most
-    made-as : (x y : Call) (next : ℕ) (right : Bool) → foundIn s e ≡ call x next
+    made-as : (x y : Call) (right : Bool) → callOn s e ≡ x
         → (Valid c t l p → step (absOf c t l p) y ≡ step (absOf c t l p) x)
         → (Valid c t l p → length sent ≡ 12 → right ≡ true)
         → Silent (step (absOf c t l p) x)
         → (Follows c t l p (step (absOf c t l p) x) d t′ l′ p′ → sent′ ≡ sentAfter (d .answer .sent) sent)
         → Promised right c t l p y d t′ l′ p′ → Applies c t l p sent s e d t′ l′ p′ sent′ bytes′
-    made-as x y next right q same fit n h k =
-        made s e x next d t′ l′ p′ sent′ bytes′ q
-        (λ v w. let f = subst (λ (r : Result). Follows c t l p r d t′ l′ p′) (same v) (k .steps (fit v w) v) in
-        quiet x d t′ l′ p′ sent′ bytes′ f (h f) n)
+    made-as x y right q same fit n h k v w =
+        let f = subst (λ (r : Result). Follows c t l p r d t′ l′ p′) (same v) (k .steps (fit v w) v) in
+        rw q (quiet x d t′ l′ p′ sent′ bytes′ f (h f) n)
 
-    pub tick-applies : (now next : ℕ) → e ≡ event.Tick now next → Promised (sentSized c (length t) (length sent)) c t l p (rules.tick now) d t′ l′ p′
+    pub tick-applies : e .kind ≡ kinds.Tick → Promised (sentSized c (length t) (length sent)) c t l p (rules.tick (e .now)) d t′ l′ p′
         → sent′ ≡ sentAfter (d .answer .sent) sent → Applies c t l p sent s e d t′ l′ p′ sent′ bytes′
-    tick-applies now next q k h =
-        made-as (rules.tick now) _ next _ (ap (foundIn s) q) (λ v. refl) sent-right (tick-silent (absOf c t l p) now) (λ f. h) k
+    tick-applies q k h =
+        made-as (rules.tick (e .now)) _ _ (ap (callOf s (e .now) (e .next)) q) (λ v. refl) sent-right (tick-silent (absOf c t l p) (e .now)) (λ f. h) k
 
-    pub frame-applies : (now head body next : ℕ) → e ≡ event.Frame now head body next → head + 12 ≡ body → body ≤ length s
-        → Promised (frames.sized c (length t) (length l) (length p) (length sent) (length (part s head body))) c t l p (rules.frame now (part s head body) (part s body next)) d t′ l′ p′
+    pub frame-applies : (head body : ℕ) → e .kind ≡ kinds.Frame head body → head + 12 ≡ body → body ≤ length s
+        → Promised (frames.sized c (length t) (length l) (length p) (length sent) (length (part s head body))) c t l p (rules.frame (e .now) (part s head body) (part s body (e .next))) d t′ l′ p′
         → sent′ ≡ sentAfter (d .answer .sent) sent → Applies c t l p sent s e d t′ l′ p′ sent′ bytes′
-    frame-applies now head body next q a b k h =
+    frame-applies head body q a b k h =
         let n : length (part s head body) ≡ 12 = length-take-le (body - head) (drop head s) (rw length-drop (omega arith)) ∙ omega arith in
-        made-as (rules.frame now (part s head body) (part s body next)) _ next _ (ap (foundIn s) q) (λ v. refl) (λ v w. frame-right v w _ n) (frame-silent (absOf c t l p) now _ _) (λ f. h) k
+        made-as (rules.frame (e .now) (part s head body) (part s body (e .next))) _ _ (ap (callOf s (e .now) (e .next)) q) (λ v. refl) (λ v w. frame-right v w _ n) (frame-silent (absOf c t l p) (e .now) _ _) (λ f. h) k
 
-    pub write-applies : (now slot start next : ℕ) → e ≡ event.Write now slot start next
-        → Promised (sentSized c (length t) (length sent)) c t l p (rules.write now (slotOf slot) (part s start next)) d t′ l′ p′
+    pub write-applies : (slot start : ℕ) → e .kind ≡ kinds.Write slot start
+        → Promised (sentSized c (length t) (length sent)) c t l p (rules.write (e .now) (slotOf slot) (part s start (e .next))) d t′ l′ p′
         → sent′ ≡ sentAfter (d .answer .sent) sent → Applies c t l p sent s e d t′ l′ p′ sent′ bytes′
     unfolding step
-    write-applies now slot start next q k h =
-        made-as (rules.write now slot (part s start next)) _ next _ (ap (foundIn s) q)
-        (λ v. slots-same v now slot (λ i. writeRules (absOf c t l p) i (entry (absOf c t l p .slots) i) (part s start next)))
-        sent-right (write-silent (absOf c t l p) now slot _) (λ f. h) k
+    write-applies slot start q k h =
+        made-as (rules.write (e .now) slot (part s start (e .next))) _ _ (ap (callOf s (e .now) (e .next)) q)
+        (λ v. slots-same v (e .now) slot (λ i. writeRules (absOf c t l p) i (entry (absOf c t l p .slots) i) (part s start (e .next))))
+        sent-right (write-silent (absOf c t l p) (e .now) slot _) (λ f. h) k
 
-    pub close-applies : (now slot next : ℕ) → e ≡ event.Close now slot next
-        → Promised (sentSized c (length t) (length sent)) c t l p (rules.close now (slotOf slot)) d t′ l′ p′
+    pub close-applies : (slot : ℕ) → e .kind ≡ kinds.Close slot
+        → Promised (sentSized c (length t) (length sent)) c t l p (rules.close (e .now) (slotOf slot)) d t′ l′ p′
         → sent′ ≡ sentAfter (d .answer .sent) sent → Applies c t l p sent s e d t′ l′ p′ sent′ bytes′
     unfolding step
-    close-applies now slot next q k h =
-        made-as (rules.close now slot) _ next _ (ap (foundIn s) q)
-        (λ v. slots-same v now slot (λ i. closeRules (absOf c t l p) i (entry (absOf c t l p .slots) i)))
-        sent-right (close-silent (absOf c t l p) now slot) (λ f. h) k
+    close-applies slot q k h =
+        made-as (rules.close (e .now) slot) _ _ (ap (callOf s (e .now) (e .next)) q)
+        (λ v. slots-same v (e .now) slot (λ i. closeRules (absOf c t l p) i (entry (absOf c t l p .slots) i)))
+        sent-right (close-silent (absOf c t l p) (e .now) slot) (λ f. h) k
 
-    pub drop-applies : (now slot next : ℕ) → e ≡ event.Drop now slot next
-        → Promised (dropping.sized c (length t) (length l) (length sent)) c t l p (rules.drop now (slotOf slot)) d t′ l′ p′
+    pub drop-applies : (slot : ℕ) → e .kind ≡ kinds.Drop slot
+        → Promised (dropping.sized c (length t) (length l) (length sent)) c t l p (rules.drop (e .now) (slotOf slot)) d t′ l′ p′
         → sent′ ≡ sentAfter (d .answer .sent) sent → Applies c t l p sent s e d t′ l′ p′ sent′ bytes′
     unfolding step
-    drop-applies now slot next q k h =
-        made-as (rules.drop now slot) _ next _ (ap (foundIn s) q)
-        (λ v. slots-same v now slot (λ i. dropRules (absOf c t l p) i (entry (absOf c t l p .slots) i)))
-        drop-right (drop-silent (absOf c t l p) now slot) (λ f. h) k
-
-    -- what stands for no call
-    pub none-applies : NoCall (foundIn s e) → Applies c t l p sent s e d t′ l′ p′ sent′ bytes′
-    none-applies n x next q v w = absurd (subst NoCall q n)
+    drop-applies slot q k h =
+        made-as (rules.drop (e .now) slot) _ _ (ap (callOf s (e .now) (e .next)) q)
+        (λ v. slots-same v (e .now) slot (λ i. dropRules (absOf c t l p) i (entry (absOf c t l p .slots) i)))
+        drop-right (drop-silent (absOf c t l p) (e .now) slot) (λ f. h) k
 
   module _ (s : List ℕ) (e : Event) (d : Done) (t′ l′ p′ bytes′ : List ℕ) where
-    pub open-applies : (now next : ℕ) → e ≡ event.Open now next
-        → Promised (fits (c .memory .slots) (c .memory .pool) (length t) (length l) (length p)) c t l p (rules.open-stream now) d t′ l′ p′ → Applies c t l p sent s e d t′ l′ p′ sent bytes′
-    open-applies now next q k =
-        let x = rules.open-stream now in
-        made-as s e d t′ l′ p′ sent bytes′ x x next _ (ap (foundIn s) q) (λ v. refl) (λ v w. sized-fits (c .memory) t l p (v .memory .sized))
-        (open-silent (absOf c t l p) now) (headless x d t′ l′ p′ sent bytes′ (open-headless (absOf c t l p) now)) k
+    pub open-applies : e .kind ≡ kinds.Open
+        → Promised (fits (c .memory .slots) (c .memory .pool) (length t) (length l) (length p)) c t l p (rules.open-stream (e .now)) d t′ l′ p′ → Applies c t l p sent s e d t′ l′ p′ sent bytes′
+    open-applies q k =
+        let x = rules.open-stream (e .now) in
+        made-as s e d t′ l′ p′ sent bytes′ x x _ (ap (callOf s (e .now) (e .next)) q) (λ v. refl) (λ v w. sized-fits (c .memory) t l p (v .memory .sized))
+        (open-silent (absOf c t l p) (e .now)) (headless x d t′ l′ p′ sent bytes′ (open-headless (absOf c t l p) (e .now))) k
 
-    pub gone-applies : (now next : ℕ) → e ≡ event.Gone now next
-        → Promised (tableFits (c .memory .slots) (length t)) c t l p (rules.gone now) d t′ l′ p′ → Applies c t l p sent s e d t′ l′ p′ sent bytes′
-    gone-applies now next q k =
-        let x = rules.gone now in
-        made-as s e d t′ l′ p′ sent bytes′ x x next _ (ap (foundIn s) q) (λ v. refl) (λ v w. table-right v)
-        (gone-silent (absOf c t l p) now) (headless x d t′ l′ p′ sent bytes′ (gone-headless (absOf c t l p) now)) k
+    pub gone-applies : e .kind ≡ kinds.Gone
+        → Promised (tableFits (c .memory .slots) (length t)) c t l p (rules.gone (e .now)) d t′ l′ p′ → Applies c t l p sent s e d t′ l′ p′ sent bytes′
+    gone-applies q k =
+        let x = rules.gone (e .now) in
+        made-as s e d t′ l′ p′ sent bytes′ x x _ (ap (callOf s (e .now) (e .next)) q) (λ v. refl) (λ v w. table-right v)
+        (gone-silent (absOf c t l p) (e .now)) (headless x d t′ l′ p′ sent bytes′ (gone-headless (absOf c t l p) (e .now))) k
 
   module _ (s : List ℕ) (e : Event) (d : Done) (t′ l′ bytes out′ sent′ : List ℕ) where
     -- bytes at the start of the lent part stand at the start of the whole
@@ -226,16 +168,15 @@ module _ (c : Connection) (t l p sent : List ℕ) where
         ap (λ (n : ℕ). step (absOf c t l p) (rules.read now (slotOf slot) n)) (length-take-le count bytes room)
         ∙ slots-same v now slot (λ i. readRules (absOf c t l p) i (entry (absOf c t l p .slots) i) count now)
 
-    pub read-applies : (now slot count next : ℕ) → e ≡ event.Read now slot count next → count ≤ length bytes
-        → Promised (connection.sized c (length t) (length l) (length p) (length sent)) c t l p (rules.read now (slotOf slot) (length (take count bytes))) d t′ l′ p
-        → reading.Outputs (connection.sized c (length t) (length l) (length p) (length sent)) c t l p now (slotOf slot) (take count bytes) sent d out′ sent′
+    pub read-applies : (slot count : ℕ) → e .kind ≡ kinds.Read slot count → count ≤ 16384 → length bytes ≡ 16384
+        → Promised (connection.sized c (length t) (length l) (length p) (length sent)) c t l p (rules.read (e .now) (slotOf slot) (length (take count bytes))) d t′ l′ p
+        → reading.Outputs (connection.sized c (length t) (length l) (length p) (length sent)) c t l p (e .now) (slotOf slot) (take count bytes) sent d out′ sent′
         → Applies c t l p sent s e d t′ l′ p sent′ (out′ ++ drop count bytes)
-    read-applies now slot count next q room k o =
-        made s e (rules.read now slot count) next d t′ l′ p sent′ (out′ ++ drop count bytes) (ap (foundIn s) q)
-        (λ v w.
+    read-applies slot count q b z k o v w =
+        let room : count ≤ length bytes = omega arith in
         let f = k .steps (all-right v w) v in
-        let same = asked-same now slot count room v in
-        record {
+        let same = asked-same (e .now) slot count room v in
+        rw q (record {
           follows = subst (λ (r : Result). Follows c t l p r d t′ l′ p) same f;
           header = o .header;
           bytes =

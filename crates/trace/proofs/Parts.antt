@@ -12,15 +12,15 @@ use lib.Seq.{drop-append-le}
 use Rattle.rules.specs.State.{Conn}
 use Rattle.rules.specs.Step.{Call, step}
 use Rattle.trace_events.specs.Format.{eventAt}
-use Rattle.trace_events.specs.Calls.{Found, call, short, bad, foundIn, callAt, later, Inside}
-use Rattle.trace_events.specs.declared.Event.{Event}
-use Rattle.trace_events.specs.declared.Event.the-variants as event
+use Rattle.trace_events.specs.Calls.{Found, call, short, bad, foundIn, callAt, later, longest, Within}
+use Rattle.trace_events.specs.declared.Parsed.{Parsed}
+use Rattle.trace_events.specs.declared.Parsed.the-variants as parsed
 use Rattle.trace_events.proofs.Inside.{event-in}
 use Rattle.trace_events.proofs.More.{Settles, call-more}
 use Rattle.trace_events.proofs.Moved.{call-later}
 use Rattle.trace.specs.declared.Stop.{Stop}
 use Rattle.trace.specs.declared.Stop.the-variants as stop
-use Rattle.trace.specs.Runs.{Ran, Room, endless, isFull, less, eventLine, stopped, wrote, onFound, runs, onward, shifted, Part, joined, feeds}
+use Rattle.trace.specs.Runs.{Traced, Room, endless, isFull, less, eventLine, stopped, wrote, onFound, runs, onward, shifted, Part, joined, feeds}
 
 -- ---- where the event after one stands
 
@@ -34,17 +34,10 @@ pub call-in : (s : List ℕ) (at : ℕ) → Ahead s at (callAt s at)
 unfolding callAt
 call-in s at = go (eventAt s at) (event-in s at)
   where
-    go : (e : Event) → Inside s at e → Ahead s at (foundIn s e)
-    go (event.Tick now next) h = (h .0, h .1)
-    go (event.Frame now head body next) h = (h .0 .0, h .0 .1)
-    go (event.Open now next) h = (h .0, h .1)
-    go (event.Read now slot count next) h = (h .0 .0, h .0 .1)
-    go (event.Write now slot start next) h = (h .0 .0, h .0 .1)
-    go (event.Close now slot next) h = (h .0, h .1)
-    go (event.Drop now slot next) h = (h .0, h .1)
-    go (event.Gone now next) h = (h .0, h .1)
-    go event.Short h = tt
-    go event.Bad h = tt
+    go : (e : Parsed) → Within s at (at + longest) e → Ahead s at (foundIn s e)
+    go (parsed.Event e) h = (h .0 .0, h .0 .1)
+    go parsed.Short h = tt
+    go parsed.Bad h = tt
 
 -- a run stops inside the input
 pub runs-inside : (k : ℕ) (c : Conn) (s : List ℕ) (at n : ℕ) (room : Room) → at ≤ length s → runs k c s at n room .at ≤ length s
@@ -52,7 +45,7 @@ unfolding runs
 runs-inside zero c s at n room h = h
 runs-inside (suc k) c s at n room h = go (callAt s at) (call-in s at) (λ d p m r l. runs-inside k d s p m r l)
   where
-    full : (t : Bool) (q : Ran) → q .at ≤ length s → cond t (stopped c at stop.Full) q .at ≤ length s
+    full : (t : Bool) (q : Traced) → q .at ≤ length s → cond t (stopped c at stop.Full) q .at ≤ length s
     full true q l = h
     full false q l = l
 
@@ -71,7 +64,7 @@ module _ (m : ℕ) (s : List ℕ) (within : m ≤ length s) where
   runs-later zero c at n room = refl
   runs-later (suc k) c at n room = rw (call-later s m within at) (go (callAt (drop m s) at) (λ d p q r. runs-later k d p q r))
     where
-      full : (t : Bool) (p q : Ran) → p ≡ shifted m q
+      full : (t : Bool) (p q : Traced) → p ≡ shifted m q
           → cond t (stopped c (m + at) stop.Full) p ≡ shifted m (cond t (stopped c at stop.Full) q)
       full true p q e = refl
       full false p q e = e
@@ -88,10 +81,10 @@ module _ (m : ℕ) (s : List ℕ) (within : m ≤ length s) where
 
 -- ---- a run goes on
 
-onward-still : (c : Conn) (at : ℕ) (why : Stop) (q : Ran) → onward (stopped c at why) q ≡ q
+onward-still : (c : Conn) (at : ℕ) (why : Stop) (q : Traced) → onward (stopped c at why) q ≡ q
 onward-still c at why q = let e : 0 + q .applied ≡ q .applied = omega arith in rw e
 
-onward-wrote : (line : List ℕ) (r q : Ran) → wrote line (onward r q) ≡ onward (wrote line r) q
+onward-wrote : (line : List ℕ) (r q : Traced) → wrote line (onward r q) ≡ onward (wrote line r) q
 onward-wrote line r q =
     let e : r .applied + q .applied + 1 ≡ r .applied + 1 + q .applied = omega arith in
     rw (append-assoc line (r .lines) (q .lines), e)
@@ -108,7 +101,7 @@ whole-call (inr e) q = e ∙ q
 
 module _ (a b : List ℕ) where
   -- what a run over the first part leaves to be done of the whole
-  abbrev Rest : ℕ → ℕ → Ran → Ran
+  abbrev Rest : ℕ → ℕ → Traced → Traced
   Rest k n r = onward r (runs (k - r .applied) (r .after) (a ++ b) (r .at) (n + r .applied) endless)
 
   still : (k n : ℕ) (c : Conn) (at : ℕ) (why : Stop) → runs k c (a ++ b) at n endless ≡ Rest k n (stopped c at why)
@@ -116,7 +109,7 @@ module _ (a b : List ℕ) where
       let e : k - 0 ≡ k = omega arith in
       sym (rw (add-zero n, e) (onward-still c at why (runs k c (a ++ b) at n endless)))
 
-  turn : (j n : ℕ) (line : List ℕ) (r q : Ran) → q ≡ Rest j (n + 1) r → wrote line q ≡ Rest (suc j) n (wrote line r)
+  turn : (j n : ℕ) (line : List ℕ) (r q : Traced) → q ≡ Rest j (n + 1) r → wrote line q ≡ Rest (suc j) n (wrote line r)
   turn j n line r q e =
       let f : suc j - (r .applied + 1) ≡ j - r .applied = omega arith in
       let g : n + (r .applied + 1) ≡ n + 1 + r .applied = omega arith in
@@ -149,7 +142,7 @@ module _ (a b : List ℕ) where
 -- ---- a trace in parts
 
 -- what is left of the first part, and the next, go on where the first stopped
-one-part : (k : ℕ) (c : Conn) (s more : List ℕ) (n : ℕ) (r : Ran) → r .at ≤ length s
+one-part : (k : ℕ) (c : Conn) (s more : List ℕ) (n : ℕ) (r : Traced) → r .at ≤ length s
     → runs k c (s ++ more) 0 n endless ≡ onward r (runs (k - r .applied) (r .after) (s ++ more) (r .at) (n + r .applied) endless)
     → runs k c (s ++ more) 0 n endless ≡ onward r (shifted (r .at) (runs (k - r .applied) (r .after) (drop (r .at) s ++ more) 0 (n + r .applied) endless))
 one-part k c s more n r inside e =
@@ -157,11 +150,11 @@ one-part k c s more n r inside e =
     let moved = runs-from (r .at) (s ++ more) whole (k - r .applied) (r .after) (n + r .applied) endless in
     e ∙ ap (onward r) (moved ∙ ap (λ (l : List ℕ). shifted (r .at) (runs (k - r .applied) (r .after) l 0 (n + r .applied) endless)) (drop-append-le (r .at) s more inside))
 
-one-fed : (k : ℕ) (c : Conn) (s : List ℕ) (n : ℕ) (ps : List Part) (r : Ran) → r .at ≤ length s
+one-fed : (k : ℕ) (c : Conn) (s : List ℕ) (n : ℕ) (ps : List Part) (r : Traced) → r .at ≤ length s
     → runs k c (s ++ joined ps) 0 n endless ≡ onward r (runs (k - r .applied) (r .after) (s ++ joined ps) (r .at) (n + r .applied) endless)
     → feeds (k - r .applied) (r .after) (drop (r .at) s) (n + r .applied) ps ≡ runs (k - r .applied) (r .after) (drop (r .at) s ++ joined ps) 0 (n + r .applied) endless
     → onward r (shifted (r .at) (feeds (k - r .applied) (r .after) (drop (r .at) s) (n + r .applied) ps)) ≡ runs k c (s ++ joined ps) 0 n endless
-one-fed k c s n ps r inside e ih = ap (λ (q : Ran). onward r (shifted (r .at) q)) ih ∙ sym (one-part k c s (joined ps) n r inside e)
+one-fed k c s n ps r inside e ih = ap (λ (q : Traced). onward r (shifted (r .at) q)) ih ∙ sym (one-part k c s (joined ps) n r inside e)
 
 -- "Feeding a trace in parts, however cut, gives the lines and the state of the whole"
 pub in-parts : (k : ℕ) (c : Conn) (rest : List ℕ) (n : ℕ) (ps : List Part) → feeds k c rest n ps ≡ runs k c (rest ++ joined ps) 0 n endless

@@ -18,16 +18,16 @@ use Rattle.trace_lines.proofs.Stored.{sets-then}
 use Rattle.memory.specs.Counts.{fits}
 use Rattle.memory.proofs.Laws.{never}
 use Rattle.trace.specs.Applies.{sized}
-use Rattle.trace.specs.Runs.{Ran, stopped, wrote, runs, resumed}
-use Rattle.trace.specs.Turns.{Lacks, Halts, Stepped, Goes, RanAs, runsFrom, Bounds, Runs, Reached}
+use Rattle.trace.specs.Runs.{Traced, stopped, wrote, runs, resumed}
+use Rattle.trace.specs.Turns.{Lacks, Halts, Continues, Goes, RanAs, runsFrom, Bounds, Runs, Reached}
 use Rattle.trace.specs.declared.Stop.{Stop}
 use Rattle.trace.specs.declared.Stop.the-variants as stop
 use Rattle.trace.specs.declared.Place.{Place}
 
-resumed-none : (q : Ran) → q ≡ resumed [] 0 q
+resumed-none : (q : Traced) → q ≡ resumed [] 0 q
 resumed-none q = let e : q .applied ≡ 0 + q .applied = omega arith in ap (λ (n : ℕ). record { lines = q .lines; applied = n; at = q .at; after = q .after; why = q .why }) e
 
-resumed-wrote : (lines : List ℕ) (count : ℕ) (line : List ℕ) (q : Ran) → resumed lines count (wrote line q) ≡ resumed (lines ++ line) (count + 1) q
+resumed-wrote : (lines : List ℕ) (count : ℕ) (line : List ℕ) (q : Traced) → resumed lines count (wrote line q) ≡ resumed (lines ++ line) (count + 1) q
 resumed-wrote lines count line q =
     let e : count + (q .applied + 1) ≡ count + 1 + q .applied = omega arith in
     rw (e, sym (append-assoc lines line (q .lines)))
@@ -108,7 +108,7 @@ module _ (c : Connection) (t l p s o : List ℕ) (place : Place) (allowance : �
         → Reached c t l p s o place allowance d t′ l′ p′ o′ at applied put
         → RanAs (runsFrom c t l p s o place allowance) place o (record { connection = d; place = record { at = at; applied = applied; put = put }; stop = why }) t′ l′ p′ o′
     ended why e r =
-        subst (λ (q : Ran). RanAs q place o (record { connection = d; place = record { at = at; applied = applied; put = put }; stop = why }) t′ l′ p′ o′)
+        subst (λ (q : Traced). RanAs q place o (record { connection = d; place = record { at = at; applied = applied; put = put }; stop = why }) t′ l′ p′ o′)
         (sym (r .left ∙ ap (resumed (r .lines) (r .count)) e))
         (record {
           valid = r .valid;
@@ -134,7 +134,7 @@ module _ (c : Connection) (t l p s o : List ℕ) (place : Place) (allowance : �
 
     module _ (h : applied < allowance) (d″ : Connection) (after end : ℕ) (t″ l″ p″ o″ : List ℕ) (same : length o″ ≡ length o′) where
       onto : Reached c t l p s o place allowance d t′ l′ p′ o′ at applied put
-          → Stepped d t′ l′ p′ s at (applied + 1) o′ put d″ after end t″ l″ p″ o″
+          → Continues d t′ l′ p′ s at (applied + 1) o′ put d″ after end t″ l″ p″ o″
           → Reached c t l p s o place allowance d″ t″ l″ p″ o″ after (applied + 1) end
       onto r k = record {
         lines = r .lines ++ k .line;

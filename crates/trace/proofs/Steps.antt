@@ -10,10 +10,10 @@ use Rattle.rules.specs.Step.{Call, step, run}
 use Rattle.trace_events.specs.Calls.{Found, call, short, bad, callAt}
 use Rattle.trace.specs.declared.Stop.{Stop}
 use Rattle.trace.specs.declared.Stop.the-variants as stop
-use Rattle.trace.specs.Runs.{Ran, Room, endless, isFull, less, eventLine, stopped, wrote, onFound, runs, readsOn, reads, linesOf}
+use Rattle.trace.specs.Runs.{Traced, Room, endless, isFull, less, eventLine, stopped, wrote, onFound, runs, readsOn, reads, linesOf}
 
 -- a run made these calls, and is the rules' run over them
-pub record Made (c : Conn) (n : ℕ) (ks : List Call) (r : Ran) : Type 0 where
+pub record Made (c : Conn) (n : ℕ) (ks : List Call) (r : Traced) : Type 0 where
   pub count : r .applied ≡ run c ks .count
   pub after : r .after ≡ run c ks .after
   pub lines : r .lines ≡ linesOf n (run c ks .outcomes)
@@ -26,7 +26,7 @@ one-read : (s : List ℕ) (at : ℕ) (x : Call) (next m : ℕ) → callAt s at �
 unfolding reads
 one-read s at x next m e = rw (add-one m, e)
 
-one-made : (c : Conn) (s : List ℕ) (at n : ℕ) (x : Call) (next : ℕ) (r : Ran) → callAt s at ≡ call x next
+one-made : (c : Conn) (s : List ℕ) (at n : ℕ) (x : Call) (next : ℕ) (r : Traced) → callAt s at ≡ call x next
     → Made (step c x .after) (n + 1) (reads (r .applied) s next) r
     → Made c n (reads (r .applied + 1) s at) (wrote (eventLine (n + 1) (step c x .outcome)) r)
 one-made c s at n x next r e m =
@@ -43,7 +43,7 @@ unfolding runs
 steps zero c s at n room = none-made c s at n stop.Spent
 steps (suc k) c s at n room = go (callAt s at) refl (λ d p m r. steps k d s p m r)
   where
-    full : (t : Bool) (q : Ran) → Made c n (reads (q .applied) s at) q → let r = cond t (stopped c at stop.Full) q in Made c n (reads (r .applied) s at) r
+    full : (t : Bool) (q : Traced) → Made c n (reads (q .applied) s at) q → let r = cond t (stopped c at stop.Full) q in Made c n (reads (r .applied) s at) r
     full true q m = none-made c s at n stop.Full
     full false q m = m
 

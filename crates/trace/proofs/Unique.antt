@@ -4,13 +4,13 @@ use mathlib.Core.Bool.{Bool}
 use mathlib.Core.List.{List}
 use Prim.Native.Nat.{ℕ}
 use Rattle.connection.specs.declared.Connection.{Connection}
-use Rattle.trace.specs.Runs.{Ran}
+use Rattle.trace.specs.Runs.{Traced}
 use Rattle.trace.specs.Turns.{RanAs, Runs, runsFrom}
 use Rattle.trace.specs.Unique.{SameRun, UniqueRun}
 use Rattle.trace.specs.declared.Place.{Place}
 use Rattle.trace.specs.declared.Report.{Report}
 
-ran-same : (ran : Ran) (place : Place) (o : List ℕ) (r : Report) (t₁ l₁ p₁ o₁ : List ℕ) (q : Report) (t₂ l₂ p₂ o₂ : List ℕ)
+ran-same : (ran : Traced) (place : Place) (o : List ℕ) (r : Report) (t₁ l₁ p₁ o₁ : List ℕ) (q : Report) (t₂ l₂ p₂ o₂ : List ℕ)
     → RanAs ran place o r t₁ l₁ p₁ o₁ → RanAs ran place o q t₂ l₂ p₂ o₂ → SameRun r t₁ l₁ p₁ o₁ q t₂ l₂ p₂ o₂
 ran-same ran place o r t₁ l₁ p₁ o₁ q t₂ l₂ p₂ o₂ x y = record {
   place = λ i. record { at = (x .at ∙ sym (y .at)) i; applied = (x .applied ∙ sym (y .applied)) i; put = (x .put ∙ sym (y .put)) i };

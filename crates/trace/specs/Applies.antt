@@ -2,7 +2,7 @@
 use mathlib.Core.Path.{_≡_}
 use mathlib.Core.Bool.{Bool, false, cond}
 use mathlib.Core.List.{List}
-use Prim.Native.Nat.{ℕ, _+_, _≤_}
+use Prim.Native.Nat.{ℕ}
 use lib.Dec.{ltb, eqb}
 use lib.ListN.{length, take}
 use Rattle.rules.specs.Step.{Call, step}
@@ -11,26 +11,12 @@ use Rattle.connection.specs.Promises as connection
 use Rattle.connection.specs.Promises.{Follows, sentAfter}
 use Rattle.connection.specs.declared.Connection.{Connection}
 use Rattle.connection.specs.declared.Done.{Done}
-use Rattle.trace_events.specs.Calls.{call, foundIn}
+use Rattle.trace_events.specs.Calls.{callOn}
 use Rattle.trace_events.specs.declared.Event.{Event}
-use Rattle.trace_events.specs.declared.Event.the-variants.{Tick, Frame, Open, Read, Write, Close, Drop, Gone, Short, Bad}
 
 -- the slot of this number, or one above every K: both are not held
 abbrev pub slotOf : ℕ → ℕ
 slotOf n = cond (ltb 4294967295 n) 4294967295 n
-
--- the parts of the input that an event takes are there, and so is room for the bytes that it reads
-abbrev pub Lies : List ℕ → ℕ → Event → Type 0
-Lies s room (Tick now next) = Unit {0}
-Lies s room (Frame now head body next) = (head + 12 ≡ body) × (body ≤ next) × (next ≤ length s)
-Lies s room (Open now next) = Unit {0}
-Lies s room (Read now slot count next) = count ≤ room
-Lies s room (Write now slot start next) = (start ≤ next) × (next ≤ length s)
-Lies s room (Close now slot next) = Unit {0}
-Lies s room (Drop now slot next) = Unit {0}
-Lies s room (Gone now next) = Unit {0}
-Lies s room Short = Unit {0}
-Lies s room Bad = Unit {0}
 
 -- the rules' step, its header in the twelve lent bytes, and the bytes that it read at the start of the lent output
 pub record Applied (c : Connection) (t l p sent : List ℕ) (x : Call) (d : Done) (t′ l′ p′ sent′ bytes′ : List ℕ) : Type 0 where
@@ -38,23 +24,9 @@ pub record Applied (c : Connection) (t l p sent : List ℕ) (x : Call) (d : Done
   pub header : sent′ ≡ sentAfter (d .answer .sent) sent
   pub bytes : take (d .read) bytes′ ≡ step (absOf c t l p) x .outcome .bytes
 
--- the same of the call that an event stands for
+-- the same of the call that an event stands for, from a valid state
 abbrev pub Applies : Connection → List ℕ → List ℕ → List ℕ → List ℕ → List ℕ → Event → Done → List ℕ → List ℕ → List ℕ → List ℕ → List ℕ → Type 0
-Applies c t l p sent s e d t′ l′ p′ sent′ bytes′ =
-    (x : Call) (next : ℕ) → foundIn s e ≡ call x next → Valid c t l p → length sent ≡ 12 → Applied c t l p sent x d t′ l′ p′ sent′ bytes′
-
--- the events that `apply` leaves to `carry`, and what is no event
-abbrev pub Carried : Event → Type 0
-Carried (Tick now next) = ⊥
-Carried (Frame now head body next) = Unit {0}
-Carried (Open now next) = ⊥
-Carried (Read now slot count next) = Unit {0}
-Carried (Write now slot start next) = ⊥
-Carried (Close now slot next) = ⊥
-Carried (Drop now slot next) = ⊥
-Carried (Gone now next) = ⊥
-Carried Short = Unit {0}
-Carried Bad = Unit {0}
+Applies c t l p sent s e d t′ l′ p′ sent′ bytes′ = Valid c t l p → length sent ≡ 12 → Applied c t l p sent (callOn s e) d t′ l′ p′ sent′ bytes′
 
 -- all that calls test of what is lent, and room for 16,384 bytes read
 abbrev pub sized : Connection → ℕ → ℕ → ℕ → ℕ → ℕ → Bool

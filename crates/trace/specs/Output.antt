@@ -14,13 +14,13 @@ use Rattle.rules.specs.declared.Config.{Config}
 use Rattle.rules.specs.declared.Checked.{Checked}
 use Rattle.rules.specs.declared.Checked.the-variants as settings
 use Rattle.trace_events.specs.Format.{settingsAt}
-use Rattle.trace_events.specs.declared.Typed.{Typed}
-use Rattle.trace_events.specs.declared.Typed.the-variants as typed
+use Rattle.trace_events.specs.declared.Preamble.{Preamble}
+use Rattle.trace_events.specs.declared.Preamble.the-variants as preamble
 use Rattle.trace_lines.specs.Line.{endLine, badLine, configLine}
 use Rattle.trace_lines.specs.Writing.{Writes, lastRoom}
 use Rattle.trace_lines.specs.declared.Put.{Put}
 use Rattle.trace_lines.specs.declared.Put.the-variants as put
-use Rattle.trace.specs.Runs.{Ran, endless, runs}
+use Rattle.trace.specs.Runs.{Traced, endless, runs}
 use Rattle.trace.specs.declared.Stop.{Stop}
 use Rattle.trace.specs.declared.Stop.the-variants as stop
 use Rattle.trace.specs.declared.ends.Sizes.{Sizes}
@@ -42,10 +42,10 @@ abbrev pub judgedAs : Checked → Settings → ℕ → Begun
 judgedAs (settings.Wrong w) t next = begun.Stop stop.Refused
 judgedAs (settings.Fine k) t next = cond (isSmall k) (begun.Fine t (sizesOf k) next) (begun.Stop stop.Refused)
 
-abbrev pub begunAs : Typed → Begun
-begunAs (typed.Settings t next) = judgedAs (checked t) t next
-begunAs typed.Short = begun.Stop stop.Short
-begunAs typed.Bad = begun.Stop stop.Bad
+abbrev pub begunAs : Preamble → Begun
+begunAs (preamble.Settings t next) = judgedAs (checked t) t next
+begunAs preamble.Short = begun.Stop stop.Short
+begunAs preamble.Bad = begun.Stop stop.Bad
 
 -- ---- the last line
 
@@ -74,7 +74,7 @@ abbrev pub allowance : ℕ
 allowance = 1000000
 
 -- the lines of a run over an input of so many bytes, and the last line
-abbrev pub printed : Ran → ℕ → List ℕ
+abbrev pub printed : Traced → ℕ → List ℕ
 printed r size = r .lines ++ lastLine (r .why) (size - r .at) (r .applied) (r .after .growth)
 
 -- "for reply 14 only `config 14`"
@@ -83,10 +83,10 @@ outputWith (settings.Wrong w) s next = configLine
 outputWith (settings.Fine k) s next = cond (isSmall k) (printed (runs allowance (initial k) s next 0 endless) (length s)) configLine
 
 -- settings cut short, and an empty input, are unreadable with no event applied (reading C6)
-abbrev pub outputOf : Typed → List ℕ → List ℕ
-outputOf (typed.Settings t next) s = outputWith (checked t) s next
-outputOf typed.Short s = badLine 0
-outputOf typed.Bad s = badLine 0
+abbrev pub outputOf : Preamble → List ℕ → List ℕ
+outputOf (preamble.Settings t next) s = outputWith (checked t) s next
+outputOf preamble.Short s = badLine 0
+outputOf preamble.Bad s = badLine 0
 
 -- what is printed for an input
 abbrev pub output : List ℕ → List ℕ

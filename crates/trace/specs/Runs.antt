@@ -17,7 +17,7 @@ use Rattle.trace.specs.declared.Stop.{Stop}
 use Rattle.trace.specs.declared.Stop.the-variants as stop
 
 -- The lines, how many events were applied, the place after the last of them, the state then, and why no more were.
-pub record Ran : Type 0 where
+pub record Traced : Type 0 where
   pub lines : List ℕ
   pub applied : ℕ
   pub at : ℕ
@@ -52,16 +52,16 @@ less (only n) k = only (n - k)
 -- ---- a run
 
 -- a run that stops before the event at a place
-abbrev pub stopped : Conn → ℕ → Stop → Ran
+abbrev pub stopped : Conn → ℕ → Stop → Traced
 stopped c at why = record { lines = []; applied = 0; at = at; after = c; why = why }
 
 -- a line, and the run that goes on after it
-abbrev pub wrote : List ℕ → Ran → Ran
+abbrev pub wrote : List ℕ → Traced → Traced
 wrote line r = record { lines = line ++ r .lines; applied = r .applied + 1; at = r .at; after = r .after; why = r .why }
 
 -- The event at a place, n being applied before it: where it is whole and there is room, the rules' step and its line, and
 -- the run goes on.
-abbrev pub onFound : Found → Conn → ℕ → ℕ → Room → (Conn → ℕ → ℕ → Room → Ran) → Ran
+abbrev pub onFound : Found → Conn → ℕ → ℕ → Room → (Conn → ℕ → ℕ → Room → Traced) → Traced
 onFound short c at n room go = stopped c at stop.Short
 onFound bad c at n room go = stopped c at stop.Bad
 onFound (call x next) c at n room go =
@@ -73,7 +73,7 @@ onFound (call x next) c at n room go =
 
 -- "The run has an allowance of .. events and returns the number applied": at most k events of s from a place on, n being
 -- applied before
-unfoldable pub runs : ℕ → Conn → List ℕ → ℕ → ℕ → Room → Ran
+unfoldable pub runs : ℕ → Conn → List ℕ → ℕ → ℕ → Room → Traced
 runs zero c s at n room = stopped c at stop.Spent
 runs (suc k) c s at n room = onFound (callAt s at) c at n room (λ c′ at′ n′ room′. runs k c′ s at′ n′ room′)
 
@@ -97,15 +97,15 @@ linesOf n (o ∷ os) = eventLine (n + 1) o ++ linesOf (n + 1) os
 -- ---- one run after another
 
 -- a run that goes on after these lines, so many events being applied
-abbrev pub resumed : List ℕ → ℕ → Ran → Ran
+abbrev pub resumed : List ℕ → ℕ → Traced → Traced
 resumed lines count q = record { lines = lines ++ q .lines; applied = count + q .applied; at = q .at; after = q .after; why = q .why }
 
 -- what two runs give, the second going on where the first stopped
-abbrev pub onward : Ran → Ran → Ran
+abbrev pub onward : Traced → Traced → Traced
 onward r q = resumed (r .lines) (r .applied) q
 
 -- a run over the input from its m-th byte on, by places of the whole input
-abbrev pub shifted : ℕ → Ran → Ran
+abbrev pub shifted : ℕ → Traced → Traced
 shifted m r = record { lines = r .lines; applied = r .applied; at = m + r .at; after = r .after; why = r .why }
 
 -- A part of the input, and the room that there is for the lines of its events. A caller that was told Full goes on with more
@@ -119,7 +119,7 @@ joined [] = []
 joined (p ∷ ps) = p .bytes ++ joined ps
 
 -- Input in parts: each run takes what the one before it left and the next part; the last one takes what is left.
-abbrev pub feeds : ℕ → Conn → List ℕ → ℕ → List Part → Ran
+abbrev pub feeds : ℕ → Conn → List ℕ → ℕ → List Part → Traced
 feeds k c rest n [] = runs k c rest 0 n endless
 feeds k c rest n (p ∷ ps) =
     let r = runs k c (rest ++ p .bytes) 0 n (p .room) in

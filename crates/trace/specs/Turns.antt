@@ -13,34 +13,17 @@ use Rattle.connection.specs.Abstract.{absOf, Valid}
 use Rattle.connection.specs.declared.Connection.{Connection}
 use Rattle.connection.specs.declared.Done.{Done}
 use Rattle.trace_events.specs.Calls.{longest}
-use Rattle.trace_events.specs.declared.Event.{Event}
-use Rattle.trace_events.specs.declared.Event.the-variants as event
 use Rattle.trace_lines.specs.Line.{lineOf}
 use Rattle.trace_lines.specs.Writing.{longestLine}
-use Rattle.trace.specs.Runs.{Ran, only, stopped, wrote, runs, resumed}
+use Rattle.trace.specs.Runs.{Traced, only, stopped, wrote, runs, resumed}
 use Rattle.trace.specs.declared.Stop.{Stop}
 use Rattle.trace.specs.declared.Stop.the-variants as stop
-use Rattle.trace.specs.declared.Next.{Next}
-use Rattle.trace.specs.declared.Next.the-variants as next
 use Rattle.trace.specs.declared.Turned.{Turned}
 use Rattle.trace.specs.declared.Turned.the-variants as turned
 use Rattle.trace.specs.declared.Place.{Place}
 use Rattle.trace.specs.declared.Report.{Report}
 
 -- ---- one event
-
--- the place after an event, or why there is none
-abbrev pub nextOf : Event → Next
-nextOf (event.Tick now p) = next.At p
-nextOf (event.Frame now head body p) = next.At p
-nextOf (event.Open now p) = next.At p
-nextOf (event.Read now slot count p) = next.At p
-nextOf (event.Write now slot start p) = next.At p
-nextOf (event.Close now slot p) = next.At p
-nextOf (event.Drop now slot p) = next.At p
-nextOf (event.Gone now p) = next.At p
-nextOf event.Short = next.Stop stop.Short
-nextOf event.Bad = next.Stop stop.Bad
 
 -- how many of the twelve lent bytes a header takes
 abbrev pub headerSize : Sent → ℕ
@@ -74,7 +57,7 @@ pub record Halts (t l p s : List ℕ) (at : ℕ) (o : List ℕ) (put : ℕ) (why
   pub lacks : Lacks why (length s) at (length o) put
 
 -- from a valid state: the event's line, and the run goes on after it
-pub record Stepped (c : Connection) (t l p s : List ℕ) (at number : ℕ) (o : List ℕ) (put : ℕ) (d : Connection) (after end : ℕ) (t′ l′ p′ o′ : List ℕ) : Type 0 where
+pub record Continues (c : Connection) (t l p s : List ℕ) (at number : ℕ) (o : List ℕ) (put : ℕ) (d : Connection) (after end : ℕ) (t′ l′ p′ o′ : List ℕ) : Type 0 where
   pub line : List ℕ
   pub valid : Valid d t′ l′ p′
   pub goes : (k n : ℕ) → n + 1 ≡ number
@@ -88,7 +71,7 @@ pub record Goes (c : Connection) (t l p s : List ℕ) (at number : ℕ) (o : Lis
   pub inside : after ≤ length s
   pub written : put ≤ end
   pub room : end ≤ length o
-  pub steps : Valid c t l p → Stepped c t l p s at number o put d after end t′ l′ p′ o′
+  pub steps : Valid c t l p → Continues c t l p s at number o put d after end t′ l′ p′ o′
 
 abbrev pub Turns : Connection → List ℕ → List ℕ → List ℕ → List ℕ → List ℕ → Place → Turned → List ℕ → List ℕ → List ℕ → List ℕ → Type 0
 Turns c t l p s o place (turned.Stop why) t′ l′ p′ o′ = Halts t l p s (place .at) o (place .put) why t′ l′ p′ o′
@@ -101,7 +84,7 @@ abbrev pub stoppedAt : Connection → Place → Stop → Report
 stoppedAt c place why = record { connection = c; place = place; stop = why }
 
 -- A run's answer: valid again, and state, count, places, reason and lines are the definition's.
-pub record RanAs (ran : Ran) (place : Place) (o : List ℕ) (r : Report) (t′ l′ p′ o′ : List ℕ) : Type 0 where
+pub record RanAs (ran : Traced) (place : Place) (o : List ℕ) (r : Report) (t′ l′ p′ o′ : List ℕ) : Type 0 where
   pub valid : Valid (r .connection) t′ l′ p′
   pub after : absOf (r .connection) t′ l′ p′ ≡ ran .after
   pub applied : r .place .applied ≡ place .applied + ran .applied
@@ -111,7 +94,7 @@ pub record RanAs (ran : Ran) (place : Place) (o : List ℕ) (r : Report) (t′ l
   pub out : o′ ≡ sets o (place .put) (ran .lines)
 
 -- the definition's run from a place on, within the room that is left
-abbrev pub runsFrom : Connection → List ℕ → List ℕ → List ℕ → List ℕ → List ℕ → Place → ℕ → Ran
+abbrev pub runsFrom : Connection → List ℕ → List ℕ → List ℕ → List ℕ → List ℕ → Place → ℕ → Traced
 runsFrom c t l p s o place allowance =
     runs (allowance - place .applied) (absOf c t l p) s (place .at) (place .applied) (only (length o - place .put))
 

@@ -1,12 +1,14 @@
 // The call that an event stands for.
 ghost use mathlib.Core.Path.{_≡_};
+ghost use Prim.Native.Nat.{_≤_};
 ghost use lib.ListN.{length};
-ghost use Rattle.trace.specs.Applies.{slotOf, Lies, Carried, Applies};
+ghost use Rattle.trace_events.specs.Calls.{Lies};
+ghost use Rattle.trace.specs.Applies.{slotOf, Applies};
 use connection::Connection;
 use connection::Done;
-use rules::Reply;
 use rules::Slot;
 use trace_events::Event;
+use trace_events::Kind;
 
 const TOP: u64 = 4294967295;
 
@@ -20,45 +22,6 @@ fn slot_of(n: u64) -> Slot
     Slot(n as u32)
 }
 
-// Makes the call of an event that brings bytes or takes them. What is none is refused.
-fn carry(
-    c: Connection,
-    table: &mut [u64],
-    links: &mut [u32],
-    pool: &mut [u8],
-    sent: &mut [u8],
-    bytes: &mut [u8],
-    src: &[u8],
-    event: Event,
-) -> Done
-    requires { ⌜ Lies (now src) (length (now bytes)) event ⌝ }
-    ensures { λ r. ⌜ (Carried event → Applies c (now (table .entry)) (now (links .entry)) (now (pool .entry)) (now (sent .entry)) (now (src .entry)) event r (now (table .exit)) (now (links .exit)) (now (pool .exit)) (now (sent .exit)) (now (bytes .exit))) ⌝ }
-{
-    match event {
-        Event::Frame {
-            now,
-            head,
-            body,
-            next,
-        } => {
-            let front = &src[head..body];
-            let rest = &src[body..next];
-            connection_frame::on_frame(c, table, links, pool, sent, front, rest, now)
-        }
-        Event::Read {
-            now,
-            slot,
-            count,
-            next: _,
-        } => {
-            let handle = slot_of(slot);
-            let room = &mut bytes[..count];
-            connection_read::read(c, table, links, &pool[..], sent, handle, room, now)
-        }
-        _ => connection::refuse(c, Reply::Size),
-    }
-}
-
 // Makes the call that an event stands for.
 pub(crate) fn apply(
     c: Connection,
@@ -70,30 +33,37 @@ pub(crate) fn apply(
     src: &[u8],
     event: Event,
 ) -> Done
-    requires { ⌜ Lies (now src) (length (now bytes)) event ⌝ }
+    requires { ⌜ Lies (event .next) (event .kind) × (event .next ≤ length (now src)) × (length (now bytes) ≡ 16384) ⌝ }
     ensures { λ r. ⌜ Applies c (now (table .entry)) (now (links .entry)) (now (pool .entry)) (now (sent .entry)) (now (src .entry)) event r (now (table .exit)) (now (links .exit)) (now (pool .exit)) (now (sent .exit)) (now (bytes .exit)) ⌝ }
 {
-    match event {
-        Event::Tick { now, next: _ } => connection_write::tick(c, &table[..], sent, now),
-        Event::Open { now, next: _ } => connection_open::open(c, table, links, pool, now),
-        Event::Write {
-            now,
-            slot,
-            start,
-            next,
-        } => {
+    let now = event.now;
+    let next = event.next;
+    let kind = event.kind;
+    match kind {
+        Kind::Tick => connection_write::tick(c, &table[..], sent, now),
+        Kind::Frame { head, body } => {
+            let front = &src[head..body];
+            let rest = &src[body..next];
+            connection_frame::on_frame(c, table, links, pool, sent, front, rest, now)
+        }
+        Kind::Open => connection_open::open(c, table, links, pool, now),
+        Kind::Read { slot, count } => {
+            let handle = slot_of(slot);
+            let room = &mut bytes[..count];
+            connection_read::read(c, table, links, &pool[..], sent, handle, room, now)
+        }
+        Kind::Write { slot, start } => {
             let handle = slot_of(slot);
             connection_write::write(c, table, sent, handle, &src[start..next], now)
         }
-        Event::Close { now, slot, next: _ } => {
+        Kind::Close { slot } => {
             let handle = slot_of(slot);
             connection_write::close(c, table, sent, handle, now)
         }
-        Event::Drop { now, slot, next: _ } => {
+        Kind::Drop { slot } => {
             let handle = slot_of(slot);
             connection_drop::drop_handle(c, table, links, sent, handle, now)
         }
-        Event::Gone { now, next: _ } => connection_write::peer_gone(c, table, now),
-        _ => carry(c, table, links, pool, sent, bytes, src, event),
+        Kind::Gone => connection_write::peer_gone(c, table, now),
     }
 }

@@ -10,7 +10,7 @@ use crate::Stop;
 use rules::Checked;
 use rules::Config;
 use rules::Settings;
-use trace_events::Typed;
+use trace_events::Preamble;
 use trace_lines::Put;
 
 // The cells and bytes that settings ask for.
@@ -65,11 +65,11 @@ fn judge(settings: Settings, next: usize) -> Begun
 pub fn begin(src: &[u8]) -> Begun
     ensures { λ r. ⌜ r ≡ begunAs (settingsAt (now (src .entry))) ⌝ }
 {
-    let typed = trace_events::read_settings(src);
-    match typed {
-        Typed::Settings(settings, next) => judge(settings, next),
-        Typed::Short => Begun::Stop(Stop::Short),
-        Typed::Bad => Begun::Stop(Stop::Bad),
+    let read = trace_events::read_settings(src);
+    match read {
+        Preamble::Settings(settings, next) => judge(settings, next),
+        Preamble::Short => Begun::Stop(Stop::Short),
+        Preamble::Bad => Begun::Stop(Stop::Bad),
     }
 }
 

@@ -13,12 +13,12 @@ ghost use Prim.Native.Nat.{_+_, _-_, _≤_, _<_, min};
 ghost use lib.ListN.{length};
 ghost use Rattle.trace_lines.specs.Writing.{Stores, longestLine};
 ghost use Rattle.trace.specs.Applies.{sized};
-ghost use Rattle.trace.specs.Turns.{nextOf, headerSize, shownLine, Turns, stoppedAt, Runs, Untouched};
+ghost use Rattle.trace.specs.Turns.{headerSize, shownLine, Turns, stoppedAt, Runs, Untouched};
 use connection::Connection;
 use connection::Done;
 use frame::header::HEADER_SIZE;
 use stream::Sent;
-use trace_events::Event;
+use trace_events::Parsed;
 use trace_lines::LONGEST_LINE;
 use trace_lines::Put;
 use trace_lines::Shown;
@@ -48,12 +48,6 @@ pub struct Report {
     pub stop: Stop,
 }
 
-// The place after an event, or why there is none.
-enum Next {
-    At(usize),
-    Stop(Stop),
-}
-
 // The connection after an event, and where the run stands then; or why the event was not applied.
 enum Turned {
     On(Connection, Place),
@@ -71,46 +65,6 @@ fn sized(c: Connection, table: usize, links: usize, pool: usize, sent: usize, by
         return bytes == SCRATCH;
     }
     false
-}
-
-fn after(event: Event) -> Next
-    ensures { λ r. ⌜ r ≡ nextOf event ⌝ }
-{
-    match event {
-        Event::Tick { now: _, next } => Next::At(next),
-        Event::Frame {
-            now: _,
-            head: _,
-            body: _,
-            next,
-        } => Next::At(next),
-        Event::Open { now: _, next } => Next::At(next),
-        Event::Read {
-            now: _,
-            slot: _,
-            count: _,
-            next,
-        } => Next::At(next),
-        Event::Write {
-            now: _,
-            slot: _,
-            start: _,
-            next,
-        } => Next::At(next),
-        Event::Close {
-            now: _,
-            slot: _,
-            next,
-        } => Next::At(next),
-        Event::Drop {
-            now: _,
-            slot: _,
-            next,
-        } => Next::At(next),
-        Event::Gone { now: _, next } => Next::At(next),
-        Event::Short => Next::Stop(Stop::Short),
-        Event::Bad => Next::Stop(Stop::Bad),
-    }
 }
 
 // How many of the twelve lent bytes an answer gives.
@@ -175,16 +129,17 @@ fn turn(
     requires { ⌜ (length (now sent) ≡ 12) × (length (now bytes) ≡ 16384) × (place .applied < 18446744073709551615) ⌝ }
     ensures { λ r. ⌜ Turns c (now (table .entry)) (now (links .entry)) (now (pool .entry)) (now (src .entry)) (now (out .entry)) place r (now (table .exit)) (now (links .exit)) (now (pool .exit)) (now (out .exit)) ⌝ }
 {
-    let event = trace_events::read_event(src, place.at);
-    let found = after(event);
+    let found = trace_events::read_event(src, place.at);
     match found {
-        Next::Stop(stop) => Turned::Stop(stop),
-        Next::At(at) => {
+        Parsed::Short => Turned::Stop(Stop::Short),
+        Parsed::Bad => Turned::Stop(Stop::Bad),
+        Parsed::Event(event) => {
             let left = trace_lines::room_left(out.len(), place.put);
             if left < LONGEST_LINE {
                 return Turned::Stop(Stop::Full);
             }
             let done = apply::apply(c, table, links, pool, sent, bytes, src, event);
+            let at = event.next;
             let applied = place.applied + 1;
             let put = show(done, &sent[..], &bytes[..], applied, out, place.put);
             let connection = done.connection;

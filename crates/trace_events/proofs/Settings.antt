@@ -5,14 +5,14 @@ use mathlib.Core.List.{List, _++_}
 use Prim.Native.Nat.{ℕ, _+_}
 use native.Mathlib.Omega.{arith}
 use Rattle.trace_events.specs.Numbers.{numberAt}
-use Rattle.trace_events.specs.Format.{following, typedWith, settingsAt}
-use Rattle.trace_events.specs.Calls.{TypedIn}
+use Rattle.trace_events.specs.Format.{following, settingsWith, settingsAt}
+use Rattle.trace_events.specs.Calls.{PreambleIn}
 use Rattle.trace_events.proofs.Inside.{NumberIn, number-in}
 use Rattle.trace_events.proofs.More.{Settles, number-more}
 use Rattle.rules.specs.declared.Settings.{Settings}
 use Rattle.trace_events.specs.declared.Number.{Number}
 use Rattle.trace_events.specs.declared.Number.the-variants as number
-use Rattle.trace_events.specs.declared.Typed.the-variants as typed
+use Rattle.trace_events.specs.declared.Preamble.the-variants as preamble
 
 -- ---- from a longer part
 
@@ -69,11 +69,11 @@ module _ (s m : List ℕ) where
   all-more = next-more (nine s) (nine (s ++ m)) (next-more (eight s) (eight (s ++ m)) (next-more (seven s) (seven (s ++ m)) (next-more (six s) (six (s ++ m)) (next-more (five s) (five (s ++ m)) (next-more (four s) (four (s ++ m)) (next-more (three s) (three (s ++ m)) (next-more (two s) (two (s ++ m)) (next-more (one s) (one (s ++ m)) (and-also tt (number-more s m 0))))))))))
 
   -- settings that are read, or unreadable, stay so whatever comes after
-  pub settings-more : Settles typed.Short (settingsAt s) (settingsAt (s ++ m))
+  pub settings-more : Settles preamble.Short (settingsAt s) (settingsAt (s ++ m))
   unfolding settingsAt
   settings-more = go all-more
     where
-      go : (ten s ≡ number.Short) ⊎ ((((((((((Unit {0} × (one (s ++ m) ≡ one s)) × (two (s ++ m) ≡ two s)) × (three (s ++ m) ≡ three s)) × (four (s ++ m) ≡ four s)) × (five (s ++ m) ≡ five s)) × (six (s ++ m) ≡ six s)) × (seven (s ++ m) ≡ seven s)) × (eight (s ++ m) ≡ eight s)) × (nine (s ++ m) ≡ nine s)) × (ten (s ++ m) ≡ ten s)) → Settles typed.Short (settingsAt s) (settingsAt (s ++ m))
+      go : (ten s ≡ number.Short) ⊎ ((((((((((Unit {0} × (one (s ++ m) ≡ one s)) × (two (s ++ m) ≡ two s)) × (three (s ++ m) ≡ three s)) × (four (s ++ m) ≡ four s)) × (five (s ++ m) ≡ five s)) × (six (s ++ m) ≡ six s)) × (seven (s ++ m) ≡ seven s)) × (eight (s ++ m) ≡ eight s)) × (nine (s ++ m) ≡ nine s)) × (ten (s ++ m) ≡ ten s)) → Settles preamble.Short (settingsAt s) (settingsAt (s ++ m))
       go (inl e) = inl (rw e)
       go (inr h) = inr (rw (h .1, h .0 .1, h .0 .0 .1, h .0 .0 .0 .1, h .0 .0 .0 .0 .1, h .0 .0 .0 .0 .0 .1, h .0 .0 .0 .0 .0 .0 .1, h .0 .0 .0 .0 .0 .0 .0 .1, h .0 .0 .0 .0 .0 .0 .0 .0 .1, h .0 .0 .0 .0 .0 .0 .0 .0 .0 .1))
 
@@ -90,13 +90,13 @@ following-in s k (number.Value v p) h = go (numberAt s p) (number-in s p)
 following-in s k number.Short h = omega arith
 following-in s k number.Bad h = tt
 
-typed-in : (s : List ℕ) (n : Number) (t : Settings) → NumberIn s 0 100 n → TypedIn s (typedWith n t)
-typed-in s (number.Value v p) t h = h
-typed-in s number.Short t h = h
-typed-in s number.Bad t h = tt
+preamble-in : (s : List ℕ) (n : Number) (t : Settings) → NumberIn s 0 100 n → PreambleIn s (settingsWith n t)
+preamble-in s (number.Value v p) t h = h
+preamble-in s number.Short t h = h
+preamble-in s number.Bad t h = tt
 
-pub settings-in : (s : List ℕ) → TypedIn s (settingsAt s)
+pub settings-in : (s : List ℕ) → PreambleIn s (settingsAt s)
 unfolding settingsAt
 settings-in s =
-    typed-in s (ten s) _
+    preamble-in s (ten s) _
     (following-in s 90 (nine s) (following-in s 80 (eight s) (following-in s 70 (seven s) (following-in s 60 (six s) (following-in s 50 (five s) (following-in s 40 (four s) (following-in s 30 (three s) (following-in s 20 (two s) (following-in s 10 (one s) (number-in s 0))))))))))

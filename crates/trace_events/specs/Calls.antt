@@ -5,10 +5,13 @@ use Prim.Native.Nat.{ℕ, _+_, _-_, _≤_, _<_}
 use lib.ListN.{length, take, drop}
 use Rattle.rules.specs.Step.{Call}
 use Rattle.rules.specs.Step as rules
-use Rattle.trace_events.specs.declared.Typed.{Typed}
-use Rattle.trace_events.specs.declared.Typed.the-variants as typed
+use Rattle.trace_events.specs.declared.Preamble.{Preamble}
+use Rattle.trace_events.specs.declared.Preamble.the-variants as preamble
+use Rattle.trace_events.specs.declared.Kind.{Kind}
+use Rattle.trace_events.specs.declared.Kind.the-variants.{Tick, Frame, Open, Read, Write, Close, Drop, Gone}
 use Rattle.trace_events.specs.declared.Event.{Event}
-use Rattle.trace_events.specs.declared.Event.the-variants.{Tick, Frame, Open, Read, Write, Close, Drop, Gone, Short, Bad}
+use Rattle.trace_events.specs.declared.Parsed.{Parsed}
+use Rattle.trace_events.specs.declared.Parsed.the-variants as parsed
 use Rattle.trace_events.specs.Format.{eventAt}
 
 -- a call and the place after its event; or "cut short" so far; or "unreadable"
@@ -21,17 +24,25 @@ pub data Found : Type 0 where
 abbrev pub part : List ℕ → ℕ → ℕ → List ℕ
 part s from to = take (to - from) (drop from s)
 
-abbrev pub foundIn : List ℕ → Event → Found
-foundIn s (Tick now next) = call (rules.tick now) next
-foundIn s (Frame now head body next) = call (rules.frame now (part s head body) (part s body next)) next
-foundIn s (Open now next) = call (rules.open-stream now) next
-foundIn s (Read now slot count next) = call (rules.read now slot count) next
-foundIn s (Write now slot start next) = call (rules.write now slot (part s start next)) next
-foundIn s (Close now slot next) = call (rules.close now slot) next
-foundIn s (Drop now slot next) = call (rules.drop now slot) next
-foundIn s (Gone now next) = call (rules.gone now) next
-foundIn s Short = short
-foundIn s Bad = bad
+-- the call of this kind, whose event ends at `next`
+abbrev pub callOf : List ℕ → ℕ → ℕ → Kind → Call
+callOf s now next Tick = rules.tick now
+callOf s now next (Frame head body) = rules.frame now (part s head body) (part s body next)
+callOf s now next Open = rules.open-stream now
+callOf s now next (Read slot count) = rules.read now slot count
+callOf s now next (Write slot start) = rules.write now slot (part s start next)
+callOf s now next (Close slot) = rules.close now slot
+callOf s now next (Drop slot) = rules.drop now slot
+callOf s now next Gone = rules.gone now
+
+-- the call that an event stands for
+abbrev pub callOn : List ℕ → Event → Call
+callOn s e = callOf s (e .now) (e .next) (e .kind)
+
+abbrev pub foundIn : List ℕ → Parsed → Found
+foundIn s (parsed.Event e) = call (callOn s e) (e .next)
+foundIn s parsed.Short = short
+foundIn s parsed.Bad = bad
 
 -- the call at a place of a trace
 unfoldable pub callAt : List ℕ → ℕ → Found
@@ -46,27 +57,27 @@ longest = 16424
 abbrev pub Spans : List ℕ → ℕ → ℕ → ℕ → Type 0
 Spans s low top next = (low < next) × (next ≤ length s) × (next ≤ top)
 
--- the same of what was read, with the parts that a caller takes from the input
-abbrev pub Within : List ℕ → ℕ → ℕ → Event → Type 0
-Within s low top (Tick now next) = Spans s low top next
-Within s low top (Frame now head body next) = Spans s low top next × (head + 12 ≡ body) × (body ≤ next) × (next ≤ body + 16384)
-Within s low top (Open now next) = Spans s low top next
-Within s low top (Read now slot count next) = Spans s low top next × (count ≤ 16384)
-Within s low top (Write now slot start next) = Spans s low top next × (start ≤ next) × (next ≤ start + 16384)
-Within s low top (Close now slot next) = Spans s low top next
-Within s low top (Drop now slot next) = Spans s low top next
-Within s low top (Gone now next) = Spans s low top next
-Within s low top Short = length s < top
-Within s low top Bad = Unit
+-- the parts of the input that an event's kind names lie before its end, and are no longer than they may be
+abbrev pub Lies : ℕ → Kind → Type 0
+Lies next Tick = Unit
+Lies next (Frame head body) = (head + 12 ≡ body) × (body ≤ next) × (next ≤ body + 16384)
+Lies next Open = Unit
+Lies next (Read slot count) = count ≤ 16384
+Lies next (Write slot start) = (start ≤ next) × (next ≤ start + 16384)
+Lies next (Close slot) = Unit
+Lies next (Drop slot) = Unit
+Lies next Gone = Unit
 
-abbrev pub Inside : List ℕ → ℕ → Event → Type 0
-Inside s at e = Within s at (at + longest) e
+abbrev pub Within : List ℕ → ℕ → ℕ → Parsed → Type 0
+Within s low top (parsed.Event e) = Spans s low top (e .next) × Lies (e .next) (e .kind)
+Within s low top parsed.Short = length s < top
+Within s low top parsed.Bad = Unit
 
 -- the same of the settings, which start at the input's first byte: ten numbers of ten groups at most
-abbrev pub TypedIn : List ℕ → Typed → Type 0
-TypedIn s (typed.Settings t next) = Spans s 0 100 next
-TypedIn s typed.Short = length s < 100
-TypedIn s typed.Bad = Unit
+abbrev pub PreambleIn : List ℕ → Preamble → Type 0
+PreambleIn s (preamble.Settings t next) = Spans s 0 100 next
+PreambleIn s preamble.Short = length s < 100
+PreambleIn s preamble.Bad = Unit
 
 -- ---- the same trace from another place on
 

@@ -1,4 +1,4 @@
--- What the contracts of `events` cite.
+-- What the contracts of `trace_events` cite.
 pub mod Numbers
 pub mod Format
 pub mod Calls

@@ -3,7 +3,7 @@ ghost use mathlib.Core.Path.{_≡_};
 ghost use Prim.Native.Nat.{_≤_, _<_, _+_};
 ghost use lib.ListN.{length};
 ghost use Rattle.trace_events.specs.Numbers.{numberAt};
-ghost use Rattle.trace_events.specs.Format.{settingsAt, following, valueOf, typedWith, lengthAt, frameAt, bytesAt, countAt, slotAt, restAt, timeAt, eventAt};
+ghost use Rattle.trace_events.specs.Format.{settingsAt, following, valueOf, settingsWith, lengthAt, eventOf, frameAt, bytesAt, countAt, slotAt, restAt, timeAt, eventAt};
 use frame::header::HEADER_SIZE;
 use rules::Settings;
 
@@ -15,55 +15,35 @@ pub enum Number {
 }
 
 // All ten settings as they are typed, and the place after them.
-pub enum Typed {
+pub enum Preamble {
     Settings(Settings, usize),
     Short,
     Bad,
 }
 
-// An event, by its numbers and by places of the input: `next` is the place after it. A frame's header stands from `head` to
-// `body`, its body from there to `next`; the bytes to write stand from `start` to `next`.
-pub enum Event {
-    Tick {
-        now: u64,
-        next: usize,
-    },
-    Frame {
-        now: u64,
-        head: usize,
-        body: usize,
-        next: usize,
-    },
-    Open {
-        now: u64,
-        next: usize,
-    },
-    Read {
-        now: u64,
-        slot: u64,
-        count: usize,
-        next: usize,
-    },
-    Write {
-        now: u64,
-        slot: u64,
-        start: usize,
-        next: usize,
-    },
-    Close {
-        now: u64,
-        slot: u64,
-        next: usize,
-    },
-    Drop {
-        now: u64,
-        slot: u64,
-        next: usize,
-    },
-    Gone {
-        now: u64,
-        next: usize,
-    },
+// What an event asks for, by its numbers and by places of the input. A frame's header stands from `head` to `body`, its body from
+// there to the event's end; the bytes to write stand from `start` to the event's end.
+pub enum Kind {
+    Tick,
+    Frame { head: usize, body: usize },
+    Open,
+    Read { slot: u64, count: usize },
+    Write { slot: u64, start: usize },
+    Close { slot: u64 },
+    Drop { slot: u64 },
+    Gone,
+}
+
+// An event: its time, the place after it, and what it asks for.
+pub struct Event {
+    pub now: u64,
+    pub next: usize,
+    pub kind: Kind,
+}
+
+// An event; or the input ends before it does; or no input makes it an event.
+pub enum Parsed {
+    Event(Event),
     Short,
     Bad,
 }
@@ -130,13 +110,13 @@ fn value(n: Number) -> u64
     }
 }
 
-fn typed_with(last: Number, settings: Settings) -> Typed
-    ensures { λ r. ⌜ r ≡ typedWith last settings ⌝ }
+fn settings_with(last: Number, settings: Settings) -> Preamble
+    ensures { λ r. ⌜ r ≡ settingsWith last settings ⌝ }
 {
     match last {
-        Number::Value(_, p) => Typed::Settings(settings, p),
-        Number::Short => Typed::Short,
-        Number::Bad => Typed::Bad,
+        Number::Value(_, p) => Preamble::Settings(settings, p),
+        Number::Short => Preamble::Short,
+        Number::Bad => Preamble::Bad,
     }
 }
 
@@ -149,151 +129,130 @@ fn length_field(src: &[u8], p: usize) -> u64
         + wide(src[p + 11])
 }
 
-fn frame(src: &[u8], time: u64, p: usize) -> Event
+fn event_of(now: u64, next: usize, kind: Kind) -> Parsed
+    ensures { λ r. ⌜ r ≡ eventOf «now» next kind ⌝ }
+{
+    Parsed::Event(Event { now, next, kind })
+}
+
+fn frame(src: &[u8], time: u64, p: usize) -> Parsed
     ensures { λ r. ⌜ r ≡ frameAt (now (src .entry)) time p ⌝ }
 {
     if src.len() < p {
-        return Event::Short;
+        return Parsed::Short;
     }
     let left = src.len() - p;
     if left < HEADER_SIZE {
-        return Event::Short;
+        return Parsed::Short;
     }
     let body = p + HEADER_SIZE;
+    let kind = Kind::Frame { head: p, body };
     if src[p + 1] != 0 {
-        return Event::Frame {
-            now: time,
-            head: p,
-            body,
-            next: body,
-        };
+        return event_of(time, body, kind);
     }
     let n = length_field(src, p);
     if LARGEST < n {
-        return Event::Bad;
+        return Parsed::Bad;
     }
     let size = n as usize;
     if left - HEADER_SIZE < size {
-        return Event::Short;
+        return Parsed::Short;
     }
-    Event::Frame {
-        now: time,
-        head: p,
-        body,
-        next: body + size,
-    }
+    event_of(time, body + size, kind)
 }
 
 // The bytes to write, as many as the count says.
-fn write_bytes(src: &[u8], time: u64, slot: u64, size: usize, p: usize) -> Event
+fn write_bytes(src: &[u8], time: u64, slot: u64, size: usize, p: usize) -> Parsed
     ensures { λ r. ⌜ r ≡ bytesAt (now (src .entry)) time slot size p ⌝ }
 {
     if src.len() < p {
-        return Event::Short;
+        return Parsed::Short;
     }
     if src.len() - p < size {
-        return Event::Short;
+        return Parsed::Short;
     }
-    Event::Write {
-        now: time,
-        slot,
-        start: p,
-        next: p + size,
-    }
+    event_of(time, p + size, Kind::Write { slot, start: p })
 }
 
 // What follows the slot of a read or a write.
-fn counted(src: &[u8], kind: u64, time: u64, slot: u64, p: usize) -> Event
+fn counted(src: &[u8], kind: u64, time: u64, slot: u64, p: usize) -> Parsed
     ensures { λ r. ⌜ r ≡ countAt (now (src .entry)) kind time slot p ⌝ }
 {
     let first = read_number(src, p);
     match first {
         Number::Value(count, next) => {
             if LARGEST < count {
-                return Event::Bad;
+                return Parsed::Bad;
             }
             let size = count as usize;
             if kind == 3 {
-                return Event::Read {
-                    now: time,
-                    slot,
-                    count: size,
-                    next,
-                };
+                return event_of(time, next, Kind::Read { slot, count: size });
             }
             write_bytes(src, time, slot, size, next)
         }
-        Number::Short => Event::Short,
-        Number::Bad => Event::Bad,
+        Number::Short => Parsed::Short,
+        Number::Bad => Parsed::Bad,
     }
 }
 
 // What follows the time of a call on a slot.
-fn on_slot(src: &[u8], kind: u64, time: u64, p: usize) -> Event
+fn on_slot(src: &[u8], kind: u64, time: u64, p: usize) -> Parsed
     ensures { λ r. ⌜ r ≡ slotAt (now (src .entry)) kind time p ⌝ }
 {
     let first = read_number(src, p);
     match first {
         Number::Value(slot, next) => match kind {
-            5 => Event::Close {
-                now: time,
-                slot,
-                next,
-            },
-            6 => Event::Drop {
-                now: time,
-                slot,
-                next,
-            },
+            5 => event_of(time, next, Kind::Close { slot }),
+            6 => event_of(time, next, Kind::Drop { slot }),
             _ => counted(src, kind, time, slot, next),
         },
-        Number::Short => Event::Short,
-        Number::Bad => Event::Bad,
+        Number::Short => Parsed::Short,
+        Number::Bad => Parsed::Bad,
     }
 }
 
 // What follows the kind and the time.
-fn rest(src: &[u8], kind: u64, time: u64, p: usize) -> Event
+fn rest(src: &[u8], kind: u64, time: u64, p: usize) -> Parsed
     ensures { λ r. ⌜ r ≡ restAt (now (src .entry)) kind time p ⌝ }
 {
     match kind {
-        0 => Event::Tick { now: time, next: p },
+        0 => event_of(time, p, Kind::Tick),
         1 => frame(src, time, p),
-        2 => Event::Open { now: time, next: p },
+        2 => event_of(time, p, Kind::Open),
         3..=6 => on_slot(src, kind, time, p),
-        _ => Event::Gone { now: time, next: p },
+        _ => event_of(time, p, Kind::Gone),
     }
 }
 
 // What follows the kind.
-fn timed(src: &[u8], kind: u64, p: usize) -> Event
+fn timed(src: &[u8], kind: u64, p: usize) -> Parsed
     ensures { λ r. ⌜ r ≡ timeAt (now (src .entry)) kind p ⌝ }
 {
     if 7 < kind {
-        return Event::Bad;
+        return Parsed::Bad;
     }
     let first = read_number(src, p);
     match first {
         Number::Value(time, q) => rest(src, kind, time, q),
-        Number::Short => Event::Short,
-        Number::Bad => Event::Bad,
+        Number::Short => Parsed::Short,
+        Number::Bad => Parsed::Bad,
     }
 }
 
 // The event at a place of a part of a trace.
-pub fn read_event(src: &[u8], at: usize) -> Event
+pub fn read_event(src: &[u8], at: usize) -> Parsed
     ensures { λ r. ⌜ r ≡ eventAt (now (src .entry)) at ⌝ }
 {
     let first = read_number(src, at);
     match first {
         Number::Value(kind, p) => timed(src, kind, p),
-        Number::Short => Event::Short,
-        Number::Bad => Event::Bad,
+        Number::Short => Parsed::Short,
+        Number::Bad => Parsed::Bad,
     }
 }
 
 // The ten settings that a trace starts with.
-pub fn read_settings(src: &[u8]) -> Typed
+pub fn read_settings(src: &[u8]) -> Preamble
     ensures { λ r. ⌜ r ≡ settingsAt (now (src .entry)) ⌝ }
 {
     let mode = read_number(src, 0);
@@ -318,5 +277,5 @@ pub fn read_settings(src: &[u8]) -> Typed
         slots: value(slots),
         pool: value(pool),
     };
-    typed_with(pool, settings)
+    settings_with(pool, settings)
 }

@@ -1,12 +1,12 @@
 -- Texts stored one after another are stored as one. Assumes nothing.
 use mathlib.Core.Path.{_≡_, refl, sym, ap, _∙_}
-use mathlib.Core.List.{List, [], _∷_, _++_, append-assoc}
-use Prim.Native.Nat.{ℕ, suc, _+_, _≤_, _<_}
+use mathlib.Core.List.{List, [], _∷_, _++_, append-assoc, append-nil}
+use Prim.Native.Nat.{ℕ, suc, _+_, _-_, _≤_, _<_}
 use native.Mathlib.Nat.{add-zero, add-assoc}
 use native.Mathlib.Numerals.{add-one}
 use native.Mathlib.Omega.{arith}
-use lib.ListN.{length, take, drop, set, length-append, length-set}
-use lib.Seq.{sets, sets-eq}
+use lib.ListN.{length, take, drop, set, length-append, length-set, length-take, drop-of-length-le}
+use lib.Seq.{take-length, drop-drop, sets, length-sets, sets-eq}
 use borrow.Author.Tests.{le-leb, lt-leb}
 use Rattle.trace_lines.specs.declared.Put.the-variants.{At, Full}
 use Rattle.trace_lines.specs.Writing.{Stores, Writes}
@@ -38,12 +38,16 @@ module _ (o : List ℕ) (at : ℕ) where
   pub stores-two : (a b : ℕ) → Stores o at (a ∷ b ∷ []) (set (set o at a) (at + 1) b) (at + 2)
   stores-two a b = record { next = refl; left = rw (add-one at); size = simp length-set }
 
-  pub stores-four : (a b c d : ℕ) → Stores o at (a ∷ b ∷ c ∷ d ∷ []) (set (set (set (set o at a) (at + 1) b) (at + 2) c) (at + 3) d) (at + 4)
-  stores-four a b c d =
-      let e₁ : at + 1 ≡ suc at = omega arith in
-      let e₂ : at + 2 ≡ suc (suc at) = omega arith in
-      let e₃ : at + 3 ≡ suc (suc (suc at)) = omega arith in
-      record { next = refl; left = rw (e₁, e₂, e₃); size = simp length-set }
+  -- a text copied into the room from `at` on
+  pub stores-copy : (text d : List ℕ) → at + length text ≤ length o → let n = at + length text - at in
+      d ≡ take (length text) text ++ drop (length text) (take n (drop at o)) → Stores o at text (take at o ++ (d ++ drop n (drop at o))) (at + length text)
+  stores-copy text d f h =
+      let n : ℕ = at + length text - at in
+      let e : n ≡ length text = omega arith in
+      let z : drop (length text) (take n (drop at o)) ≡ [] = drop-of-length-le (take n (drop at o)) {i = length text} (omega (arith, length-take n (drop at o))) in
+      let l : take at o ++ (d ++ drop n (drop at o)) ≡ sets o at text =
+      rw (h, take-length text, z, append-nil text, e, drop-drop (length text) at o, ← append-assoc (take at o) text (drop (at + length text) o)) (sym (sets-eq text o at f)) in
+      record { next = refl; left = l; size = ap length l ∙ length-sets o at text }
 
 -- what is stored with room is written
 pub writes : (room : ℕ) {o text o′ : List ℕ} {at r : ℕ} → at + room ≤ length o → r ≤ at + room → Stores o at text o′ r

@@ -1,3 +1,3 @@
--- What the contracts of `lines` cite.
+-- What the contracts of `trace_lines` cite.
 pub mod Line
 pub mod Writing

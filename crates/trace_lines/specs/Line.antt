@@ -90,4 +90,4 @@ badLine events = (98 ∷ 97 ∷ 100 ∷ 32 ∷ []) ++ field (decimal events) 10
 
 -- "for reply 14 only `config 14`"
 unfoldable pub configLine : List ℕ
-configLine = (99 ∷ 111 ∷ 110 ∷ 102 ∷ []) ++ ((105 ∷ 103 ∷ 32 ∷ 49 ∷ []) ++ (52 ∷ 10 ∷ []))
+configLine = 99 ∷ 111 ∷ 110 ∷ 102 ∷ 105 ∷ 103 ∷ 32 ∷ 49 ∷ 52 ∷ 10 ∷ []

@@ -32,11 +32,11 @@ pub const LONGEST_LINE: usize = 32892;
 // The room that any line asks for beside its bytes.
 const ROOM: usize = 100;
 
-const SPACE: u8 = 32;
+const SPACE: u8 = b' ';
 
-const NEWLINE: u8 = 10;
+const NEWLINE: u8 = b'\n';
 
-const DASH: u8 = 45;
+const DASH: u8 = b'-';
 
 fn wide(n: u32) -> u64
     ensures { λ r. ⌜ r ≡ n ⌝ }
@@ -48,14 +48,14 @@ fn digit(n: u64) -> u8
     requires { ⌜ n < 10 ⌝ }
     ensures { λ r. ⌜ r ≡ 48 + n ⌝ }
 {
-    48 + n as u8
+    b'0' + n as u8
 }
 
 fn hex_digit(n: u8) -> u8
     requires { ⌜ n < 16 ⌝ }
     ensures { λ r. ⌜ r ≡ hexDigit n ⌝ }
 {
-    if n < 10 { 48 + n } else { 87 + n }
+    if n < 10 { b'0' + n } else { 87 + n }
 }
 
 fn put_two(out: &mut [u8], at: usize, a: u8, b: u8) -> usize
@@ -67,15 +67,13 @@ fn put_two(out: &mut [u8], at: usize, a: u8, b: u8) -> usize
     at + 2
 }
 
-fn put_four(out: &mut [u8], at: usize, a: u8, b: u8, c: u8, d: u8) -> usize
-    requires { ⌜ at + 4 ≤ length (now out) ⌝ }
-    ensures { λ r. ⌜ Stores (now (out .entry)) at (a ∷ b ∷ c ∷ d ∷ []) (now (out .exit)) r ⌝ }
+fn put_text(out: &mut [u8], at: usize, text: &[u8]) -> usize
+    requires { ⌜ Room (now out) at (now text) ⌝ }
+    ensures { λ r. ⌜ Stores (now (out .entry)) at (now (text .entry)) (now (out .exit)) r ⌝ }
 {
-    out[at] = a;
-    out[at + 1] = b;
-    out[at + 2] = c;
-    out[at + 3] = d;
-    at + 4
+    let end = at + text.len();
+    bytes::copy(text, &mut out[at..end]);
+    end
 }
 
 // The digits of a number, the high ones first.
@@ -176,9 +174,9 @@ fn put_marks(out: &mut [u8], at: usize, wakes: Woke) -> usize
     requires { ⌜ at + 3 ≤ length (now out) ⌝ }
     ensures { λ r. ⌜ Stores (now (out .entry)) at (marks wakes) (now (out .exit)) r ⌝ }
 {
-    let reader = put_mark(out, at, wakes.reader, 114);
-    let writer = put_mark(out, reader, wakes.writer, 119);
-    put_mark(out, writer, wakes.opener, 111)
+    let reader = put_mark(out, at, wakes.reader, b'r');
+    let writer = put_mark(out, reader, wakes.writer, b'w');
+    put_mark(out, writer, wakes.opener, b'o')
 }
 
 fn put_wakes(out: &mut [u8], at: usize, wakes: Woke) -> usize
@@ -187,7 +185,7 @@ fn put_wakes(out: &mut [u8], at: usize, wakes: Woke) -> usize
     ensures { λ r. ⌜ r ≤ at + 4 ⌝ }
 {
     if wakes.all {
-        return put_two(out, at, 97, SPACE);
+        return put_two(out, at, b'a', SPACE);
     }
     let p = put_marks(out, at, wakes);
     if p == at {
@@ -249,7 +247,7 @@ pub fn end_line(out: &mut [u8], at: usize, events: u64, growth: u64) -> Put
     if room_left(out.len(), at) < ROOM {
         return Put::Full;
     }
-    let said = put_four(out, at, 101, 110, 100, SPACE);
+    let said = put_text(out, at, b"end ");
     let applied = put_number(out, said, events, SPACE);
     Put::At(put_number(out, applied, growth, NEWLINE))
 }
@@ -261,7 +259,7 @@ pub fn bad_line(out: &mut [u8], at: usize, events: u64) -> Put
     if room_left(out.len(), at) < ROOM {
         return Put::Full;
     }
-    let said = put_four(out, at, 98, 97, 100, SPACE);
+    let said = put_text(out, at, b"bad ");
     Put::At(put_number(out, said, events, NEWLINE))
 }
 
@@ -272,7 +270,5 @@ pub fn config_line(out: &mut [u8], at: usize) -> Put
     if room_left(out.len(), at) < ROOM {
         return Put::Full;
     }
-    let half = put_four(out, at, 99, 111, 110, 102);
-    let most = put_four(out, half, 105, 103, SPACE, 49);
-    Put::At(put_two(out, most, 52, NEWLINE))
+    Put::At(put_text(out, at, b"config 14\n"))
 }

@@ -1,4 +1,4 @@
--- `events::counted` meets its contract. Assumes nothing.
+-- `trace_events::counted` meets its contract. Assumes nothing.
 use Rattle.trace_events.specs.Format.{countAt}
 use borrow.Author.Tests.{le-ltb, lt-ltb, eq-eqb, ne-eqb}
 use borrow.Author.Needs.{needs}
@@ -15,9 +15,12 @@ returns : tie.Need-returns
 unfolding countAt
 returns c = rw (← c .before .before .before .before .read-number .ensures, c .before .before .first .given .1, lt-ltb _ _ (c .if1 .taken))
 
+event-of-requires : tie.Need-event-of-requires
+event-of-requires c κs = search needs
+
 returns-2 : tie.Need-returns-2
 unfolding countAt
-returns-2 c = rw (← c .before .before .before .before .before .read-number .ensures, c .before .before .before .first .given .1, le-ltb _ _ (c .before .if1 .left), eq-eqb _ _ (c .if2 .taken))
+returns-2 c = rw (← c .before .before .before .before .before .before .read-number .ensures, c .before .before .before .before .first .given .1, le-ltb _ _ (c .before .before .if1 .left), eq-eqb _ _ (c .before .if2 .taken), c .event-of .ensures)
 
 write-bytes-requires : tie.Need-write-bytes-requires
 write-bytes-requires c κs = search needs
@@ -47,6 +50,7 @@ counted-spec =
     read-number-requires
     enum-known-first
     returns
+    event-of-requires
     returns-2
     write-bytes-requires
     enum-told

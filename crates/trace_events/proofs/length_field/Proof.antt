@@ -1,4 +1,4 @@
--- `events::length_field` meets its contract: four bytes of a header that is there, summed below 2^32. Assumes nothing.
+-- `trace_events::length_field` meets its contract: four bytes of a header that is there, summed below 2^32. Assumes nothing.
 use borrow.Author.Needs.{needs}
 use native.Mathlib.Omega.{arith}
 use Rattle.trace_events.proofs.length_field.Statement.{statement}

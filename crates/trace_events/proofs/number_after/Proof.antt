@@ -1,4 +1,4 @@
--- `events::number_after` meets its contract. Assumes nothing.
+-- `trace_events::number_after` meets its contract. Assumes nothing.
 use Rattle.trace_events.specs.Format.{following}
 use borrow.Author.Needs.{needs}
 use Rattle.trace_events.proofs.number_after.Statement.{statement}

@@ -1,4 +1,4 @@
--- `events::on_slot` meets its contract. Assumes nothing.
+-- `trace_events::on_slot` meets its contract. Assumes nothing.
 use Rattle.trace_events.specs.Format.{slotAt}
 use borrow.Author.Tests.{ne-eqb}
 use borrow.Author.Needs.{needs}
@@ -11,6 +11,12 @@ read-number-requires c κs = search needs
 enum-known-first : tie.Need-enum-known-first
 enum-known-first c = search needs
 
+event-of-requires : tie.Need-event-of-requires
+event-of-requires c κs = search needs
+
+event-of-requires-2 : tie.Need-event-of-requires-2
+event-of-requires-2 c κs = search needs
+
 counted-requires : tie.Need-counted-requires
 counted-requires c κs = search needs
 
@@ -22,11 +28,11 @@ enum-told-2 c = search needs
 
 returns : tie.Need-returns
 unfolding slotAt
-returns c = rw (← c .before .before .before .before .read-number .ensures, c .before .before .first .given .1, c .match2 .keys1)
+returns c = rw (← c .before .before .before .before .before .read-number .ensures, c .before .before .before .first .given .1, c .before .match2 .keys1, c .event-of .ensures)
 
 returns-2 : tie.Need-returns-2
 unfolding slotAt
-returns-2 c = rw (← c .before .before .before .before .read-number .ensures, c .before .before .first .given .1, c .match2 .keys2)
+returns-2 c = rw (← c .before .before .before .before .before .read-number .ensures, c .before .before .before .first .given .1, c .before .match2 .keys2, c .event-of2 .ensures)
 
 returns-3 : tie.Need-returns-3
 unfolding slotAt
@@ -46,6 +52,8 @@ on-slot-spec =
     (tie.spec
     read-number-requires
     enum-known-first
+    event-of-requires
+    event-of-requires-2
     counted-requires
     enum-told
     enum-told-2

@@ -1,4 +1,4 @@
--- `events::read_event` meets its contract. Assumes nothing.
+-- `trace_events::read_event` meets its contract. Assumes nothing.
 use Rattle.trace_events.specs.Format.{eventAt}
 use borrow.Author.Needs.{needs}
 use Rattle.trace_events.proofs.read_event.Statement.{statement}

@@ -1,4 +1,4 @@
--- `events::read_number` meets its contract. The loop's invariant: what is left to read is read by as many groups as are left
+-- `trace_events::read_number` meets its contract. The loop's invariant: what is left to read is read by as many groups as are left
 -- and one more, and the sum is below the next group's weight. The measure is the groups left. Assumes nothing.
 use mathlib.Core.Path.{_≡_, refl, sym, _∙_}
 use Prim.Native.Nat.{suc, _+_, _*_, _%_, _≤_, _<_}

@@ -1,4 +1,4 @@
--- `events::read_settings` meets its contract. Assumes nothing.
+-- `trace_events::read_settings` meets its contract. Assumes nothing.
 use Rattle.trace_events.specs.Format.{settingsAt}
 use borrow.Author.Needs.{needs}
 use Rattle.trace_events.proofs.read_settings.Statement.{statement}
@@ -64,14 +64,14 @@ value-requires-9 c κs = search needs
 value-requires-10 : tie.Need-value-requires-10
 value-requires-10 c κs = search needs
 
-typed-with-requires : tie.Need-typed-with-requires
-typed-with-requires c κs = search needs
+settings-with-requires : tie.Need-settings-with-requires
+settings-with-requires c κs = search needs
 
 returns : tie.Need-returns
 unfolding settingsAt
 returns c =
     rw (
-      c .typed-with .ensures,
+      c .settings-with .ensures,
       c .before .value10 .ensures,
       c .before .before .value9 .ensures,
       c .before .before .before .value8 .ensures,
@@ -118,5 +118,5 @@ read-settings-spec =
     value-requires-8
     value-requires-9
     value-requires-10
-    typed-with-requires
+    settings-with-requires
     returns)

@@ -1,4 +1,4 @@
--- `events::timed` meets its contract. Assumes nothing.
+-- `trace_events::timed` meets its contract. Assumes nothing.
 use Rattle.trace_events.specs.Format.{timeAt}
 use borrow.Author.Tests.{le-ltb, lt-ltb}
 use borrow.Author.Needs.{needs}

@@ -1,4 +1,4 @@
--- `events::write_bytes` meets its contract. Assumes nothing.
+-- `trace_events::write_bytes` meets its contract. Assumes nothing.
 use Rattle.trace_events.specs.Format.{bytesAt}
 use Prim.Native.Nat.{_+_, _≤_, _<_}
 use borrow.Author.Tests.{le-leb, lt-leb}
@@ -11,7 +11,7 @@ use Rattle.trace_events.proofs.write_bytes.Tie as tie
 returns : tie.Need-returns
 unfolding bytesAt
 returns c =
-    let a = c .before .args in
+    let a = c .before .before .args in
     let h : length (a .src .now) < a .p + a .size = omega arith in
     rw (lt-leb _ _ h)
 
@@ -21,19 +21,23 @@ sub-if2 c = search needs
 returns-2 : tie.Need-returns-2
 unfolding bytesAt
 returns-2 c =
-    let a = c .before .before .args in
+    let a = c .before .before .before .args in
     let h : length (a .src .now) < a .p + a .size = omega arith in
     rw (lt-leb _ _ h)
 
-add-t6 : tie.Need-add-t6
-add-t6 c = search needs
+add-event-of : tie.Need-add-event-of
+add-event-of c = search needs
+
+event-of-requires : tie.Need-event-of-requires
+event-of-requires c κs = search needs
 
 returns-3 : tie.Need-returns-3
 unfolding bytesAt
 returns-3 c =
-    let a = c .before .before .args in
+    let a = c .before .before .before .before .args in
     let h : a .p + a .size ≤ length (a .src .now) = omega arith in
-    rw (le-leb _ _ h)
+    rw (le-leb _ _ h, c .event-of .ensures)
 
 pub write-bytes-spec : {M : Type 1} → statement M
-write-bytes-spec = tie.close (tie.spec returns sub-if2 returns-2 add-t6 returns-3)
+write-bytes-spec =
+    tie.close (tie.spec returns sub-if2 returns-2 add-event-of event-of-requires returns-3)

@@ -1,7 +1,7 @@
--- `lines::config_line` meets its contract. Assumes nothing.
+-- `trace_lines::config_line` meets its contract. Assumes nothing.
 use Prim.Native.Nat.{_+_, _≤_, _<_}
 use Rattle.trace_lines.specs.Line.{configLine}
-use Rattle.trace_lines.proofs.Stored.{stores-then, writes, writes-none}
+use Rattle.trace_lines.proofs.Stored.{writes, writes-none}
 use borrow.Author.Needs.{needs}
 use native.Mathlib.Omega.{arith}
 use lib.ListN.{length}
@@ -17,14 +17,11 @@ returns c =
     let h : length (a .out .now) < a .at + 100 = omega arith in
     writes-none 100 _ h
 
-put-four-requires : tie.Need-put-four-requires
-put-four-requires c κs = search needs
+slice-aggregate-put-text : tie.Need-slice-aggregate-put-text
+slice-aggregate-put-text c = search needs
 
-put-four-requires-2 : tie.Need-put-four-requires-2
-put-four-requires-2 c κs = search needs
-
-put-two-requires : tie.Need-put-two-requires
-put-two-requires c κs = search needs
+put-text-requires : tie.Need-put-text-requires
+put-text-requires c κs = search needs
 
 same-length : tie.Need-same-length
 same-length c = search needs
@@ -32,10 +29,9 @@ same-length c = search needs
 returns-2 : tie.Need-returns-2
 unfolding configLine
 returns-2 c =
-    let a = c .before .before .before .before .before .before .before .before .before .before .before .before .before .before .before .args in
+    let a = c .before .before .before .before .before .before .before .before .args in
     let h : a .at + 100 ≤ length (a .out .now) = omega arith in
-    writes 100 h (omega arith)
-    (stores-then (c .before .before .before .before .before .before .before .before .before .before .put-four .ensures) (stores-then (c .before .before .before .before .before .before .put-four2 .ensures) (c .before .before .put-two .ensures)))
+    writes 100 h (omega arith) (c .before .before .put-text .ensures)
 
 pub config-line-spec : {M : Type 1} → statement M
 config-line-spec =
@@ -43,8 +39,7 @@ config-line-spec =
     (tie.spec
     room-left-requires
     returns
-    put-four-requires
-    put-four-requires-2
-    put-two-requires
+    slice-aggregate-put-text
+    put-text-requires
     same-length
     returns-2)

@@ -1,4 +1,4 @@
--- `lines::end_line` meets its contract. Assumes nothing.
+-- `trace_lines::end_line` meets its contract. Assumes nothing.
 use Prim.Native.Nat.{_+_, _≤_, _<_}
 use Rattle.trace_lines.specs.Line.{endLine}
 use Rattle.trace_lines.proofs.Stored.{stores-then, writes, writes-none}
@@ -17,8 +17,11 @@ returns c =
     let h : length (a .out .now) < a .at + 100 = omega arith in
     writes-none 100 _ h
 
-put-four-requires : tie.Need-put-four-requires
-put-four-requires c κs = search needs
+slice-aggregate-put-text : tie.Need-slice-aggregate-put-text
+slice-aggregate-put-text c = search needs
+
+put-text-requires : tie.Need-put-text-requires
+put-text-requires c κs = search needs
 
 put-number-requires : tie.Need-put-number-requires
 put-number-requires c κs = search needs
@@ -32,10 +35,10 @@ same-length c = search needs
 returns-2 : tie.Need-returns-2
 unfolding endLine
 returns-2 c =
-    let a = c .before .before .before .before .before .before .before .before .before .before .before .before .before .before .before .args in
+    let a = c .before .before .before .before .before .before .before .before .before .before .before .before .before .before .before .before .args in
     let h : a .at + 100 ≤ length (a .out .now) = omega arith in
     writes 100 h (omega arith)
-    (stores-then (c .before .before .before .before .before .before .before .before .before .before .put-four .ensures) (stores-then (c .before .before .before .before .before .before .put-number .ensures .0) (c .before .before .put-number2 .ensures .0)))
+    (stores-then (c .before .before .before .before .before .before .before .before .before .before .put-text .ensures) (stores-then (c .before .before .before .before .before .before .put-number .ensures .0) (c .before .before .put-number2 .ensures .0)))
 
 pub end-line-spec : {M : Type 1} → statement M
 end-line-spec =
@@ -43,7 +46,8 @@ end-line-spec =
     (tie.spec
     room-left-requires
     returns
-    put-four-requires
+    slice-aggregate-put-text
+    put-text-requires
     put-number-requires
     put-number-requires-2
     same-length

@@ -1,4 +1,4 @@
--- `lines::hex_digit` meets its contract. Assumes nothing.
+-- `trace_lines::hex_digit` meets its contract. Assumes nothing.
 use borrow.Author.Tests.{lt-ltb, le-ltb}
 use borrow.Author.Needs.{needs}
 use Rattle.trace_lines.proofs.hex_digit.Statement.{statement}

@@ -1,4 +1,4 @@
--- `lines::line` meets its contract. Assumes nothing.
+-- `trace_lines::line` meets its contract. Assumes nothing.
 use Prim.Native.Nat.{_+_, _≤_, _<_}
 use Rattle.trace_lines.specs.Writing.{lineRoom}
 use Rattle.trace_lines.proofs.Stored.{writes, writes-none}

@@ -1,4 +1,4 @@
--- `lines::put_bytes` meets its contract. Assumes nothing.
+-- `trace_lines::put_bytes` meets its contract. Assumes nothing.
 use mathlib.Core.Path.{_≡_, _∙_}
 use mathlib.Core.List.{[]}
 use Prim.Native.Nat.{_<_}

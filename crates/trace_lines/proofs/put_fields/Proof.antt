@@ -1,4 +1,4 @@
--- `lines::put_fields` meets its contract: each field is stored after the one before it. Assumes nothing.
+-- `trace_lines::put_fields` meets its contract: each field is stored after the one before it. Assumes nothing.
 use Rattle.trace_lines.proofs.Stored.{stores-then}
 use Rattle.trace_lines.specs.Line.{lineOf}
 use borrow.Author.Needs.{needs}

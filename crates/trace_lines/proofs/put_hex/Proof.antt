@@ -1,4 +1,4 @@
--- `lines::put_hex` meets its contract. The loop's invariant: the bytes passed are stored in hex, and the rest has its room. The
+-- `trace_lines::put_hex` meets its contract. The loop's invariant: the bytes passed are stored in hex, and the rest has its room. The
 -- measure is the bytes left. Assumes nothing.
 use mathlib.Core.Path.{_≡_}
 use Prim.Native.Nat.{_+_, _-_, _*_, _≤_, _<_}

@@ -1,4 +1,4 @@
--- `lines::put_mark` meets its contract. Assumes nothing.
+-- `trace_lines::put_mark` meets its contract. Assumes nothing.
 use Rattle.trace_lines.proofs.Stored.{stores-none, stores-one}
 use borrow.Author.Needs.{needs}
 use Rattle.trace_lines.proofs.put_mark.Statement.{statement}

@@ -1,4 +1,4 @@
--- `lines::put_marks` meets its contract. Assumes nothing.
+-- `trace_lines::put_marks` meets its contract. Assumes nothing.
 use Rattle.trace_lines.specs.Line.{marks}
 use Rattle.trace_lines.proofs.Stored.{stores-then}
 use Rattle.trace_lines.proofs.Texts.{mark-size}

@@ -1,4 +1,4 @@
--- `lines::put_number` meets its contract. Assumes nothing.
+-- `trace_lines::put_number` meets its contract. Assumes nothing.
 use Rattle.trace_lines.proofs.Texts.{decimal-size}
 use Rattle.trace_lines.proofs.Stored.{stores-one, stores-then}
 use borrow.Author.Needs.{needs}

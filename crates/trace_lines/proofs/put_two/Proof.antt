@@ -1,4 +1,4 @@
--- `lines::put_two` meets its contract. Assumes nothing.
+-- `trace_lines::put_two` meets its contract. Assumes nothing.
 use Rattle.trace_lines.proofs.Stored.{stores-two}
 use borrow.Author.Needs.{needs}
 use native.Mathlib.Omega.{arith}

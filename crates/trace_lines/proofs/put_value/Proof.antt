@@ -1,4 +1,4 @@
--- `lines::put_value` meets its contract. Assumes nothing.
+-- `trace_lines::put_value` meets its contract. Assumes nothing.
 use Rattle.trace_lines.specs.Line.{valueText}
 use borrow.Author.Needs.{needs}
 use native.Mathlib.Omega.{arith}

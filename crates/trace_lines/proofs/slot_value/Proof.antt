@@ -1,4 +1,4 @@
--- `lines::slot_value` meets its contract. Assumes nothing.
+-- `trace_lines::slot_value` meets its contract. Assumes nothing.
 use borrow.Author.Needs.{needs}
 use Rattle.trace_lines.proofs.slot_value.Statement.{statement}
 use Rattle.trace_lines.proofs.slot_value.Tie as tie

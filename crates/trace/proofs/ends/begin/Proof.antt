@@ -7,8 +7,8 @@ use Rattle.trace.proofs.ends.begin.Tie as tie
 read-settings-requires : tie.Need-read-settings-requires
 read-settings-requires c κs = search needs
 
-enum-known-typed : tie.Need-enum-known-typed
-enum-known-typed c = search needs
+enum-known-read : tie.Need-enum-known-read
+enum-known-read c = search needs
 
 judge-requires : tie.Need-judge-requires
 judge-requires c κs = search needs
@@ -20,7 +20,7 @@ enum-told-2 : tie.Need-enum-told-2
 enum-told-2 c = search needs
 
 returns : tie.Need-returns
-returns c = rw (sym (c .before .before .before .before .read-settings .ensures) ∙ c .before .before .typed .given .1) (c .judge .ensures)
+returns c = rw (sym (c .before .before .before .before .read-settings .ensures) ∙ c .before .before .read .given .1) (c .judge .ensures)
 
 returns-2 : tie.Need-returns-2
 returns-2 c = rw (sym (c .before .before .read-settings .ensures) ∙ c .enum-told .given .1)
@@ -33,7 +33,7 @@ begin-spec =
     tie.close
     (tie.spec
     read-settings-requires
-    enum-known-typed
+    enum-known-read
     judge-requires
     enum-told
     enum-told-2

@@ -1,7 +1,7 @@
--- `events::typed_with` meets its contract. Assumes nothing.
+-- `trace_events::settings_with` meets its contract. Assumes nothing.
 use borrow.Author.Needs.{needs}
-use Rattle.trace_events.proofs.typed_with.Statement.{statement}
-use Rattle.trace_events.proofs.typed_with.Tie as tie
+use Rattle.trace_events.proofs.settings_with.Statement.{statement}
+use Rattle.trace_events.proofs.settings_with.Tie as tie
 
 enum-known-last : tie.Need-enum-known-last
 enum-known-last c = search needs
@@ -21,6 +21,6 @@ returns-2 c = search needs
 returns-3 : tie.Need-returns-3
 returns-3 c = search needs
 
-pub typed-with-spec : {M : Type 1} → statement M
-typed-with-spec =
+pub settings-with-spec : {M : Type 1} → statement M
+settings-with-spec =
     tie.close (tie.spec enum-known-last enum-told enum-told-2 returns returns-2 returns-3)
