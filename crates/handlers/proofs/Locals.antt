@@ -31,7 +31,7 @@ use Rattle.handlers.proofs.Rules.{ListedHeld, both, livesAt, find-lives
 
 module _ (c : Conn) (i : ℕ) (held : entry (c .slots) i .held ≡ true) where
   write-with : (given : List ℕ) (w : Written) →
-      writeWith c i (entry (c .slots) i) given w ≡ carrying given (perform c c [] (writeAction (record { 0 = i }) (entry (c .slots) i .listed) w))
+      writeWith c i (entry (c .slots) i) given w ≡ carrying given (perform c [] (writeAction (record { 0 = i }) (entry (c .slots) i .listed) w))
   unfolding writeWith carrying perform
   write-with given written.Closed = refl
   write-with given (written.Wait s) = rw (held, append-nil)
@@ -39,14 +39,14 @@ module _ (c : Conn) (i : ℕ) (held : entry (c .slots) i .held ≡ true) where
 
   pub write-performs : (given : List ℕ) →
       writeRules c i (entry (c .slots) i) given
-      ≡ carrying given (perform c c [] (onWrite (c .ended) (record { 0 = i }) (entry (c .slots) i .stream) (entry (c .slots) i .listed) (length given) (c .config .split)))
+      ≡ carrying given (perform c [] (onWrite (c .ended) (record { 0 = i }) (entry (c .slots) i .stream) (entry (c .slots) i .listed) (length given) (c .config .split)))
   unfolding writeRules onWrite carrying perform
   write-performs given =
-      both (λ x. carrying given (perform c c [] x)) (c .ended) refl
+      both (λ x. carrying given (perform c [] x)) (c .ended) refl
       (write-with given (stream.write (entry (c .slots) i .stream) (length given) (c .config .split)))
 
   pub close-performs :
-      closeRules c i (entry (c .slots) i) ≡ perform c c [] (onClose (record { 0 = i }) (entry (c .slots) i .stream) (entry (c .slots) i .listed))
+      closeRules c i (entry (c .slots) i) ≡ perform c [] (onClose (record { 0 = i }) (entry (c .slots) i .stream) (entry (c .slots) i .listed))
   unfolding closeRules onClose perform
   close-performs = rw (held, append-nil)
 
@@ -109,13 +109,13 @@ module _ (c : Conn) (i : ℕ) (e : Entry) where
   abbrev pub returned : Conn
   returned = withGrowth c (growthReturned (c .growth) (e .stream))
 
-  drop-at : (p : Place) → livesAt c p → dropAt p returned i ≡ freed i (perform returned returned [] (onDrop (record { 0 = i }) (tableAt c p)))
+  drop-at : (p : Place) → livesAt c p → dropAt p returned i ≡ freed i (perform returned [] (onDrop (record { 0 = i }) (tableAt c p)))
   unfolding dropAt freed perform onDrop
   drop-at nowhere l = refl
   drop-at (at j) l = rw (l .1, append-nil)
 
   pub drop-performs : ListedHeld c →
-      dropRules c i e ≡ freed i (perform returned returned [] (onDrop (record { 0 = i }) (tableAt c (find (c .slots) (e .stream .id)))))
+      dropRules c i e ≡ freed i (perform returned [] (onDrop (record { 0 = i }) (tableAt c (find (c .slots) (e .stream .id)))))
   unfolding dropRules
   drop-performs held = drop-at (find (c .slots) (e .stream .id)) (find-lives c (e .stream .id) held)
 

@@ -1,42 +1,43 @@
 -- Performing the handlers' actions is what the rules of frames say. Assumes nothing.
 use mathlib.Core.Path.{_≡_, refl, ap, sym, _∙_}
-use mathlib.Core.Bool.{Bool, true, false, cond}
-use mathlib.Core.List.{List, [], append-nil}
+use mathlib.Core.Bool.{Bool, true, false, cond, not}
+use mathlib.Core.List.{List, [], _∷_, append-nil}
 use Prim.Native.Nat.{ℕ, _+_, _<_}
 use lib.ListN.{length}
 use lib.Seq.{getD-set-same, set-set, set-getD}
 use lib.Dec.{eqb, ltb, leb}
-use borrow.Author.Tests.{le-ltb}
 use native.Mathlib.Omega.{arith}
-use Rattle.frame.specs.Header.{contains, ack, syn, fin, rst, session, protocolError, internalError, initialWindow}
+use Rattle.frame.specs.Header.{contains, ack, syn, fin, rst, session, protocolError, initialWindow}
 use Rattle.frame.specs.declared.header.Header.{Header}
 use Rattle.frame.specs.declared.header.StreamId.{StreamId}
+use Rattle.frame.specs.declared.header.Tag.{Tag}
+use Rattle.frame.specs.declared.header.Tag.the-variants as tag
 use Rattle.rtt.specs.Pings.{handlePong}
 use Rattle.rtt.specs.declared.Pong as heard
 use Rattle.rtt.specs.declared.Pong.the-variants.{Accepted, Unexpected}
 use Rattle.flow_control.specs.Windows.{top}
 use Rattle.stream.specs.Streams.{newInbound, dataTaken, onData, onWindowUpdate, acknowledged}
 use Rattle.stream.specs.declared.Stream.{Stream}
+use Rattle.stream.specs.declared.Wakes.{Wakes}
 use Rattle.stream.specs.declared.Received.{Received}
 use Rattle.stream.specs.declared.Received.the-variants.{Taken, ProtocolError}
 use Rattle.rules.specs.Lists.{Place, at, nowhere}
 use Rattle.rules.specs.State.{Entry, Conn, entry, vacant, hasId, find, withSlot, withSlots, withStream, withOpenWait, withPings, lowestFree, room, isRemote, foundOf}
 use Rattle.rules.specs.Ending.{Result, gives}
 use Rattle.rules.specs.Frames as rules
-use Rattle.rules.specs.Frames.{Acked, openedBy, ackStep, makeAt, make, synRules, synData, synUpdate, takeAt, knownData, knownUpdate, dataRules, updateRules, pongRules, pingRules, isKnown}
+use Rattle.rules.specs.Frames.{Acked, openedBy, ackStep, makeAt, make, synRules, synData, synUpdate, takeAt, knownData, knownUpdate, dataRules, updateRules, pongRules, pingRules, isKnown, bodyLength, frameRules}
 use Rattle.rules.specs.declared.Slot.{Slot}
+use Rattle.rules.specs.declared.Which.{Which}
+use Rattle.rules.proofs.Lists.{Says, first-says, sum-kept}
 use Rattle.handlers.specs.Actions as actions
-use Rattle.handlers.specs.Actions.{terminate, synAction, newAction, firstData, firstUpdate, onSynData, onSynUpdate, dataTake, updateTake, onKnownData, onKnownUpdate, pongHeard, onPing}
-use Rattle.handlers.specs.Perform.{outcomeOf, perform, knownAt, limitsOf, wakesOpen, withoutWait, dataAction, updateAction}
+use Rattle.handlers.specs.Actions.{receive, violated, fullCode, newAction, made, first, onSyn, take, onKnown, streamAction, pongHeard, onPing}
+use Rattle.handlers.specs.Perform.{outcomeOf, perform, knownAt, limitsOf, wakesOpen, ofStream}
 use Rattle.handlers.specs.declared.Known.{Known}
 use Rattle.handlers.specs.declared.Known.the-variants as known
-use Rattle.rules.specs.declared.Which.{Which}
-use Rattle.rules.specs.declared.Which.the-variants as which
 use Rattle.handlers.specs.declared.Limits.{Limits}
 use Rattle.handlers.specs.declared.Action.{Action}
-use Rattle.handlers.specs.declared.Action.the-variants as action
 use Rattle.handlers.specs.declared.PingStep.{PingStep}
-use Rattle.rules.proofs.Lists.{Says, first-says, sum-kept}
+use Rattle.handlers.proofs.Firsts.{over, opened}
 
 -- every stream in the table has its handle held
 abbrev pub ListedHeld : Conn → Type 0
@@ -64,115 +65,114 @@ abbrev placeOf : Known → Place
 placeOf (known.At i s) = at (i .0)
 placeOf known.Nowhere = nowhere
 
-module _ (c a : Conn) (woke : Bool) (h : Header) (body : List ℕ) (now : ℕ) where
-  abbrev stepped : Known → Acked
-  stepped k = record { before = c; conn = connOf a k; woke = woke }
+abbrev stepped : Conn → Bool → Known → Acked
+stepped c woke k = record { before = c; conn = connOf (withOpenWait c (cond woke false (c .openWait))) k; woke = woke }
 
+abbrev free : Conn → Which
+free c = foundOf (lowestFree (c .slots))
+
+module _ (c : Conn) (woke : Bool) (h : Header) (body : List ℕ) where
   abbrev does : Action → Result
-  does x = perform c a body x
+  does x = perform c body x
 
-  abbrev free : Which
-  free = foundOf (lowestFree (a .slots))
+  violates : (k : Known) → LivesAt c k → rules.goAway (stepped c woke k) protocolError ≡ does (violated woke k)
+  unfolding perform
+  violates (known.At i s) l = rw (l .1, l .2, append-nil)
+  violates known.Nowhere l = refl
 
-  module _ (i : Slot) (s : Stream) (lives : Lives a (i .0)) where
-    -- a stream that is only put back
-    answered : (code : ℕ) → rules.goAway (stepped (known.At i s)) code ≡ does (action.Store i s true (terminate woke code))
-    unfolding perform
-    answered code = rw (lives .1, lives .2, append-nil)
+  module _ (i : Slot) (s : Stream) (lives : Lives c (i .0)) where
+    same : entry (stepped c woke (known.At i s) .conn .slots) (i .0) ≡ withStream (entry (c .slots) (i .0)) s
+    same = getD-set-same (c .slots) (i .0) (withStream (entry (c .slots) (i .0)) s) vacant (lives .0)
 
-    same : entry (connOf a (known.At i s) .slots) (i .0) ≡ withStream (entry (a .slots) (i .0)) s
-    same = getD-set-same (a .slots) (i .0) (withStream (entry (a .slots) (i .0)) s) vacant (lives .0)
-
-    reset-at : rules.onReset (stepped (known.At i s)) (at (i .0)) ≡ does (actions.onReset woke (known.At i s))
+    reset-at : rules.onReset (stepped c woke (known.At i s)) (at (i .0)) ≡ does (actions.onReset woke (known.At i s))
     unfolding perform rules.onReset actions.onReset
     reset-at = rw (same, set-set, lives .1, append-nil)
 
-    room-kept : room (connOf a (known.At i s)) ≡ room a
-    room-kept = rw (sum-kept (λ e. length (e .bytes)) (a .slots) (i .0) (withStream (entry (a .slots) (i .0)) s) vacant refl)
+    room-kept : room (stepped c woke (known.At i s) .conn) ≡ room c
+    room-kept = rw (sum-kept (λ e. length (e .bytes)) (c .slots) (i .0) (withStream (entry (c .slots) (i .0)) s) vacant refl)
 
-    data-at : (n : ℕ) (r : Received) → length body ≡ n →
-        takeAt (i .0) (stepped (known.At i s)) h body r ≡ does (dataTake i s (room a) woke (contains (h .flags) fin) n r)
+    take-at : (n : ℕ) (r : Received) → length body ≡ n →
+        takeAt (i .0) (stepped c woke (known.At i s)) h body r ≡ does (take i s (room c) woke (contains (h .flags) fin) n r)
     unfolding perform takeAt
-    data-at n ProtocolError e = answered protocolError
-    data-at n (Taken t w) e =
-        rw (room-kept, e) (both does (ltb (room a) n) refl (rw (same, set-set, lives .1, lives .2)))
+    take-at n ProtocolError e = violates (known.At i s) lives
+    take-at n (Taken t w) e =
+        rw (room-kept, e) (both does (ltb (room c) n) refl (rw (same, set-set, lives .1, lives .2)))
 
-    update-at : (r : Received) → body ≡ [] →
-        takeAt (i .0) (stepped (known.At i s)) h [] r ≡ does (updateTake i s woke (contains (h .flags) fin) r)
-    unfolding perform takeAt
-    update-at ProtocolError e = answered protocolError
-    update-at (Taken t w) e = rw (room-kept, le-ltb (room a) 0 (omega arith), same, set-set, lives .1, lives .2)
-
-  make-at : (p : Place) (s : Stream) (n : ℕ) → length body ≡ n → makeAt p (stepped known.Nowhere) s body ≡ does (newAction (foundOf p) (room a) woke s n)
-  unfolding perform makeAt
-  make-at nowhere s n e = refl
-  make-at (at j) s n e = rw e (both does (ltb (room a) n) refl refl)
-
-  makes : (s : Stream) (n : ℕ) → length body ≡ n → make (stepped known.Nowhere) s body ≡ does (newAction free (room a) woke s n)
-  unfolding make
-  makes s n e = make-at (lowestFree (a .slots)) s n e
-
-  resets : (k : Known) → LivesAt a k → rules.onReset (stepped k) (placeOf k) ≡ does (actions.onReset woke k)
+  resets : (k : Known) → LivesAt c k → rules.onReset (stepped c woke k) (placeOf k) ≡ does (actions.onReset woke k)
   unfolding perform rules.onReset actions.onReset
   resets (known.At i s) l = reset-at i s l
   resets known.Nowhere l = refl
 
+  make-at : (p : Place) (s : Stream) (n : ℕ) → length body ≡ n → makeAt p (stepped c woke known.Nowhere) s body ≡ does (newAction (foundOf p) (room c) woke s n)
+  unfolding perform makeAt
+  make-at nowhere s n e = refl
+  make-at (at j) s n e = rw e (both does (ltb (room c) n) refl refl)
+
+  makes : (b : Bool) (s : Stream) (w : Wakes) (n : ℕ) → length body ≡ n
+      → cond (not b) (rules.goAway (stepped c woke known.Nowhere) protocolError) (make (stepped c woke known.Nowhere) s body)
+      ≡ does (made (room c) woke (free c) n (cond b (Taken s w) ProtocolError))
+  unfolding make perform
+  makes true s w n e = make-at (lowestFree (c .slots)) s n e
+  makes false s w n e = refl
+
   -- the tests of SYN before `next`
-  syns : (k : Known) (full : ℕ) (next : Result) (then : Action) → LivesAt a k → (k ≡ known.Nowhere → next ≡ does then) →
-      synRules (stepped k) (h .«stream_id») (placeOf k) full next ≡ does (synAction (limitsOf a) woke k (h .«stream_id») (terminate woke full) then)
-  unfolding synRules synAction perform
-  syns (known.At i s) full next then l e =
-      both does (isRemote (a .config .mode) (h .«stream_id»)) (answered i s l protocolError) (answered i s l protocolError)
-  syns known.Nowhere full next then l e =
-      both does (isRemote (a .config .mode) (h .«stream_id»)) (both does (leb (limitsOf a .«max_num_streams») (limitsOf a .listed)) refl (e refl)) refl
+  syns : (now : ℕ) (next : Acked → Result) → next (stepped c woke known.Nowhere) ≡ does (first (room c) woke (free c) h now) → (k : Known) → LivesAt c k →
+      synRules (stepped c woke k) (h .«stream_id») (placeOf k) (fullCode (h .tag)) (next (stepped c woke k)) ≡ does (onSyn (limitsOf c) woke k (free c) h now)
+  unfolding synRules onSyn perform
+  syns now next e (known.At i s) l =
+      both does (isRemote (c .config .mode) (h .«stream_id»)) (violates (known.At i s) l) (violates (known.At i s) l)
+  syns now next e known.Nowhere l =
+      both does (isRemote (c .config .mode) (h .«stream_id»)) (both does (leb (limitsOf c .«max_num_streams») (limitsOf c .listed)) refl e) refl
 
-  next-data : (k : Known) → length body ≡ h .length .0 → k ≡ known.Nowhere →
-      cond (ltb initialWindow (h .length .0)) (rules.goAway (stepped k) protocolError) (make (stepped k) (dataTaken (newInbound (h .«stream_id») initialWindow now) (h .length .0) (contains (h .flags) fin)) body)
-      ≡ does (firstData (room a) woke free h now)
-  unfolding perform
-  next-data k e g = rw g (both does (ltb initialWindow (h .length .0)) refl (makes (dataTaken (newInbound (h .«stream_id») initialWindow now) (h .length .0) (contains (h .flags) fin)) (h .length .0) e))
+-- ---- each type
 
-  syn-data : (k : Known) → LivesAt a k → length body ≡ h .length .0 →
-      synData (stepped k) h body (placeOf k) now ≡ does (onSynData (limitsOf a) woke k free h now)
-  unfolding synData onSynData
-  syn-data k l e = rw e (syns k internalError _ (firstData (room a) woke free h now) l (next-data k e))
+abbrev typed : Tag → Header → Header
+typed k h = record { tag = k; flags = h .flags; «stream_id» = h .«stream_id»; length = h .length }
 
-  next-update : (k : Known) → body ≡ [] → k ≡ known.Nowhere →
-      cond (ltb top (h .length .0 + initialWindow)) (rules.goAway (stepped k) protocolError) (make (stepped k) (openedBy h now) [])
-      ≡ does (firstUpdate (room a) woke free h now)
-  unfolding perform
-  next-update k e g =
-      let m = ap (λ (b : List ℕ). make (stepped known.Nowhere) (openedBy h now) b) (sym e) ∙ makes (openedBy h now) 0 (ap length e) in
-      rw g (both does (ltb top (h .length .0 + initialWindow)) refl m)
+module _ (c : Conn) (woke : Bool) (header : Header) (now : ℕ) where
+  abbrev d : Header
+  d = typed tag.Data header
 
-  syn-update : (k : Known) → LivesAt a k → body ≡ [] →
-      synUpdate (stepped k) h (placeOf k) now ≡ does (onSynUpdate (limitsOf a) woke k free h now)
-  unfolding synUpdate onSynUpdate
-  syn-update k l e = syns k protocolError _ (firstUpdate (room a) woke free h now) l (next-update k e)
+  module _ (body : List ℕ) (e : length body ≡ header .length .0) where
+    syn-data : (k : Known) → LivesAt c k → synData (stepped c woke k) d body (placeOf k) now ≡ perform c body (onSyn (limitsOf c) woke k (free c) d now)
+    unfolding synData receive
+    syn-data =
+        syns c woke d body now
+        (λ a. cond (ltb initialWindow (length body)) (rules.goAway a protocolError) (make a (dataTaken (newInbound (d .«stream_id») initialWindow now) (length body) (contains (d .flags) fin)) body))
+        (rw (e, over (d .length .0) initialWindow) (makes c woke d body (leb (d .length .0) initialWindow) _ _ (d .length .0) e))
 
-  known-data : (k : Known) → LivesAt a k → length body ≡ h .length .0 →
-      knownData (stepped k) h body (placeOf k) ≡ does (onKnownData (room a) woke k h)
-  unfolding perform knownData onKnownData
-  known-data (known.At i s) l e = rw (same i s l, e) (data-at i s l (h .length .0) (onData s (h .length .0) (contains (h .flags) fin)) e)
-  known-data known.Nowhere l e = refl
+    known-data : (k : Known) → LivesAt c k → knownData (stepped c woke k) d body (placeOf k) ≡ perform c body (onKnown (room c) woke k d)
+    unfolding perform knownData onKnown receive
+    known-data (known.At i s) l = rw (same c woke d body i s l, e) (take-at c woke d body i s l (d .length .0) (onData s (d .length .0) (contains (d .flags) fin)) e)
+    known-data known.Nowhere l = refl
 
-  known-update : (k : Known) → LivesAt a k → body ≡ [] → knownUpdate (stepped k) h (placeOf k) ≡ does (onKnownUpdate woke k h)
-  unfolding perform knownUpdate onKnownUpdate
-  known-update (known.At i s) l e =
-      rw (same i s l) (update-at i s l (onWindowUpdate s (record { 0 = h .length .0 }) (contains (h .flags) fin)) e)
-  known-update known.Nowhere l e = refl
+    data-stepped : (k : Known) → LivesAt c k → dataRules (stepped c woke k) d body (placeOf k) now ≡ perform c body (streamAction (limitsOf c) woke k (free c) d now)
+    unfolding dataRules streamAction
+    data-stepped k l =
+        both (perform c body) (contains (d .flags) rst) (resets c woke d body k l) (both (perform c body) (contains (d .flags) syn) (syn-data k l) (known-data k l))
 
-  data-stepped : (k : Known) → LivesAt a k → length body ≡ h .length .0 →
-      dataRules (stepped k) h body (placeOf k) now ≡ does (dataAction (limitsOf a) woke k free h now)
-  unfolding dataRules dataAction
-  data-stepped k l e =
-      both does (contains (h .flags) rst) (resets k l) (both does (contains (h .flags) syn) (syn-data k l e) (known-data k l e))
+  abbrev u : Header
+  u = typed tag.WindowUpdate header
 
-  update-stepped : (k : Known) → LivesAt a k → body ≡ [] →
-      updateRules (stepped k) h (placeOf k) now ≡ does (updateAction (limitsOf a) woke k free h now)
-  unfolding updateRules updateAction
-  update-stepped k l e =
-      both does (contains (h .flags) rst) (resets k l) (both does (contains (h .flags) syn) (syn-update k l e) (known-update k l e))
+  syn-update : (k : Known) → LivesAt c k → synUpdate (stepped c woke k) u (placeOf k) now ≡ perform c [] (onSyn (limitsOf c) woke k (free c) u now)
+  unfolding synUpdate receive
+  syn-update =
+      syns c woke u [] now (λ a. cond (ltb top (u .length .0 + initialWindow)) (rules.goAway a protocolError) (make a (openedBy u now) []))
+      (rw (over (u .length .0 + initialWindow) top, sum, ← opened u now) (makes c woke u [] (leb (initialWindow + u .length .0) top) _ _ 0 refl))
+    where
+      sum : leb (u .length .0 + initialWindow) top ≡ leb (initialWindow + u .length .0) top
+      sum = let e : u .length .0 + initialWindow ≡ initialWindow + u .length .0 = omega arith in rw e
+
+  known-update : (k : Known) → LivesAt c k → knownUpdate (stepped c woke k) u (placeOf k) ≡ perform c [] (onKnown (room c) woke k u)
+  unfolding perform knownUpdate onKnown receive
+  known-update (known.At i s) l =
+      rw (same c woke u [] i s l) (take-at c woke u [] i s l 0 (onWindowUpdate s (record { 0 = u .length .0 }) (contains (u .flags) fin)) refl)
+  known-update known.Nowhere l = refl
+
+  update-stepped : (k : Known) → LivesAt c k → updateRules (stepped c woke k) u (placeOf k) now ≡ perform c [] (streamAction (limitsOf c) woke k (free c) u now)
+  unfolding updateRules streamAction
+  update-stepped k l =
+      both (perform c []) (contains (u .flags) rst) (resets c woke u [] k l) (both (perform c []) (contains (u .flags) syn) (syn-update k l) (known-update k l))
 
 -- ---- the ACK step
 
@@ -180,31 +180,36 @@ abbrev pub livesAt : Conn → Place → Type 0
 livesAt c (at i) = Lives c i
 livesAt c nowhere = Unit {0}
 
--- rules and an action that agree after any ACK step agree after the frame's own
+-- rules that agree with the action after any ACK step agree after the frame's own
 module _
-    (c : Conn) (h : Header) (body : List ℕ) (r : Acked → Place → Result) (q : Limits → Bool → Known → Which → Action)
-    (agree : (a : Conn) (woke : Bool) (k : Known) → LivesAt a k →
-    r (record { before = c; conn = connOf a k; woke = woke }) (placeOf k) ≡ perform c a body (q (limitsOf a) woke k (foundOf (lowestFree (a .slots)))))
+    (c : Conn) (h : Header) (body : List ℕ) (now : ℕ) (r : Acked → Place → Result)
+    (agree : (woke : Bool) (k : Known) → LivesAt c k → r (stepped c woke k) (placeOf k) ≡ perform c body (streamAction (limitsOf c) woke k (free c) h now))
   where
-    abbrev free-in : Which
-    free-in = foundOf (lowestFree (c .slots))
+    abbrev act : Bool → Known → Result
+    act woke k = perform c body (streamAction (limitsOf c) woke k (free c) h now)
+
+    -- after an ACK no open waits, whether one did or not
+    cleared : (w : Bool) → withOpenWait c false ≡ withOpenWait c (cond w false w)
+    cleared true = refl
+    cleared false = refl
 
     at-slot : (b : Bool) (i : ℕ) → Lives c i →
         r (cond b (record { before = c; conn = withOpenWait (rules.acknowledgeAt (at i) c) false; woke = c .openWait }) (record { before = c; conn = c; woke = false })) (at i)
-        ≡ perform c (cond b (withOpenWait c false) c) body (q (limitsOf c) (cond b (c .openWait) false) (known.At (record { 0 = i }) (cond b (acknowledged (entry (c .slots) i .stream)) (entry (c .slots) i .stream))) free-in)
-    at-slot true i l = agree (withOpenWait c false) (c .openWait) (known.At (record { 0 = i }) (acknowledged (entry (c .slots) i .stream))) l
+        ≡ act (cond b (c .openWait) false) (known.At (record { 0 = i }) (cond b (acknowledged (entry (c .slots) i .stream)) (entry (c .slots) i .stream)))
+    at-slot true i l =
+        let k = known.At (record { 0 = i }) (acknowledged (entry (c .slots) i .stream)) in
+        ap (λ (x : Conn). r (record { before = c; conn = connOf x k; woke = c .openWait }) (at i)) (cleared (c .openWait)) ∙ agree (c .openWait) k l
     at-slot false i l =
         ap (λ (x : List Entry). r (record { before = c; conn = withSlots c x; woke = false }) (at i)) (sym (set-getD (c .slots) i vacant))
-        ∙ agree c false (known.At (record { 0 = i }) (entry (c .slots) i .stream)) l
+        ∙ agree false (known.At (record { 0 = i }) (entry (c .slots) i .stream)) l
 
     not-known : (b : Bool) →
         r (cond b (record { before = c; conn = withOpenWait c false; woke = c .openWait }) (record { before = c; conn = c; woke = false })) nowhere
-        ≡ perform c (cond b (withOpenWait c false) c) body (q (limitsOf c) (cond b (c .openWait) false) known.Nowhere free-in)
-    not-known true = agree (withOpenWait c false) (c .openWait) known.Nowhere tt
-    not-known false = agree c false known.Nowhere tt
+        ≡ act (cond b (c .openWait) false) known.Nowhere
+    not-known true = ap (λ (x : Conn). r (record { before = c; conn = x; woke = c .openWait }) nowhere) (cleared (c .openWait)) ∙ agree (c .openWait) known.Nowhere tt
+    not-known false = agree false known.Nowhere tt
 
-    acked-agree : (place : Place) → livesAt c place →
-        r (ackStep c h place) place ≡ perform c (withoutWait c h) body (q (limitsOf c) (wakesOpen c h) (knownAt c h place) free-in)
+    acked-agree : (place : Place) → livesAt c place → r (ackStep c h place) place ≡ act (wakesOpen (c .openWait) h) (knownAt c h place)
     unfolding ackStep
     acked-agree (at i) l = at-slot (contains (h .flags) ack) i l
     acked-agree nowhere l = not-known (contains (h .flags) ack)
@@ -227,25 +232,31 @@ find-lives c id held = found-lives c id (find (c .slots) id) held (first-says (h
 
 -- ---- the laws
 
-module _ (c : Conn) (h : Header) (now : ℕ) (held : ListedHeld c) where
+no-bytes : (b : List ℕ) → length b ≡ 0 → b ≡ []
+no-bytes [] e = refl
+no-bytes (x ∷ b) e = cc
+
+module _ (c : Conn) (h : Header) (body : List ℕ) (now : ℕ) (held : ListedHeld c) where
   abbrev place : Place
   place = find (c .slots) (h .«stream_id»)
 
-  -- the rules of a Data frame are its action, performed
-  pub data-performs : (body : List ℕ) → length body ≡ h .length .0 →
-      dataRules (ackStep c h place) h body place now
-      ≡ perform c (withoutWait c h) body (dataAction (limitsOf c) (wakesOpen c h) (knownAt c h place) (foundOf (lowestFree (c .slots))) h now)
-  data-performs body e =
-      acked-agree c h body (λ a p. dataRules a h body p now) (λ l w k v. dataAction l w k v h now)
-      (λ a w k l. data-stepped c a w h body now k l e) place (find-lives c (h .«stream_id») held)
+  by-type : (k : Tag) → ofStream k ≡ true → length body ≡ bodyLength k (h .length .0) →
+      frameRules k c (typed k h) body place now
+      ≡ perform c body (streamAction (limitsOf c) (wakesOpen (c .openWait) (typed k h)) (knownAt c (typed k h) place) (free c) (typed k h) now)
+  unfolding frameRules
+  by-type tag.Data y e =
+      acked-agree c (typed tag.Data h) body now (λ a p. dataRules a (typed tag.Data h) body p now) (λ w k l. data-stepped c w h now body e k l) place (find-lives c (h .«stream_id») held)
+  by-type tag.WindowUpdate y e =
+      rw (no-bytes body e)
+      (acked-agree c (typed tag.WindowUpdate h) [] now (λ a p. updateRules a (typed tag.WindowUpdate h) p now) (λ w k l. update-stepped c w h now k l) place (find-lives c (h .«stream_id») held))
+  by-type tag.Ping y e = cc
+  by-type tag.GoAway y e = cc
 
-  -- and so are those of a WindowUpdate
-  pub update-performs :
-      updateRules (ackStep c h place) h place now
-      ≡ perform c (withoutWait c h) [] (updateAction (limitsOf c) (wakesOpen c h) (knownAt c h place) (foundOf (lowestFree (c .slots))) h now)
-  update-performs =
-      acked-agree c h [] (λ a p. updateRules a h p now) (λ l w k v. updateAction l w k v h now)
-      (λ a w k l. update-stepped c a w h [] now k l refl) place (find-lives c (h .«stream_id») held)
+  -- the rules of a Data frame and of a WindowUpdate are the action, performed
+  pub stream-performs : ofStream (h .tag) ≡ true → length body ≡ bodyLength (h .tag) (h .length .0) →
+      frameRules (h .tag) c h body (find (c .slots) (h .«stream_id»)) now
+      ≡ perform c body (streamAction (limitsOf c) (wakesOpen (c .openWait) h) (knownAt c h (find (c .slots) (h .«stream_id»))) (foundOf (lowestFree (c .slots))) h now)
+  stream-performs y e = by-type (h .tag) y e
 
 -- the pings after a Ping frame, and its answer
 abbrev pub heardBy : Conn → PingStep → Result
@@ -264,21 +275,7 @@ ping-performs c h now =
     (pong-performs c (handlePong (c .pings) (h .length .0) now (c .config .interval)))
     (both (heardBy c) (cond (session (h .«stream_id»)) true (isKnown (find (c .slots) (h .«stream_id»)))) refl refl)
 
--- ---- where the vacancy does not matter
-
-module _ (l : Limits) (woke : Bool) (k : Known) (v : Which) (h : Header) (now : ℕ) where
-  pub data-without-syn : contains (h .flags) syn ≡ false → dataAction l woke k v h now ≡ dataAction l woke k which.None h now
-  unfolding dataAction
-  data-without-syn e = rw e
-
-  pub data-with-rst : contains (h .flags) rst ≡ true → dataAction l woke k v h now ≡ dataAction l woke k which.None h now
-  unfolding dataAction
-  data-with-rst e = rw e
-
-  pub update-without-syn : contains (h .flags) syn ≡ false → updateAction l woke k v h now ≡ updateAction l woke k which.None h now
-  unfolding updateAction
-  update-without-syn e = rw e
-
-  pub update-with-rst : contains (h .flags) rst ≡ true → updateAction l woke k v h now ≡ updateAction l woke k which.None h now
-  unfolding updateAction
-  update-with-rst e = rw e
+-- without SYN the vacancy does not matter
+pub without-syn : (l : Limits) (woke : Bool) (k : Known) (v u : Which) (h : Header) (now : ℕ) → contains (h .flags) syn ≡ false → streamAction l woke k v h now ≡ streamAction l woke k u h now
+unfolding streamAction
+without-syn l woke k v u h now e = rw e

@@ -1,17 +1,17 @@
 -- The frame rules as actions: what the rules of `rules/specs/Frames` do, said of one stream's value and of numbers.
 use mathlib.Core.Bool.{Bool, true, false, cond, not}
-use Prim.Native.Nat.{ℕ, _+_}
+use Prim.Native.Nat.{ℕ}
 use lib.Dec.{ltb, leb}
-use Rattle.frame.specs.Header.{contains, ack, fin, session, pingHeader, goAwayHeader, withAck, protocolError, internalError, initialWindow}
+use Rattle.frame.specs.Header.{contains, ack, syn, fin, rst, session, pingHeader, goAwayHeader, withAck, protocolError, internalError, initialWindow}
 use Rattle.frame.specs.declared.header.Header.{Header}
-use Rattle.frame.specs.declared.header.StreamId.{StreamId}
+use Rattle.frame.specs.declared.header.Tag.{Tag}
+use Rattle.frame.specs.declared.header.Tag.the-variants as tag
 use Rattle.rtt.specs.Pings.{handlePong}
 use Rattle.rtt.specs.declared.Rtt.{Rtt}
 use Rattle.rtt.specs.declared.Pong as heard
 use Rattle.rtt.specs.declared.Pong.the-variants.{Accepted, Unexpected}
-use Rattle.flow_control.specs.Windows.{top}
 use Rattle.stream.specs.States.{isClosed}
-use Rattle.stream.specs.Streams.{newInbound, dataTaken, onData, onWindowUpdate, reset, acknowledged}
+use Rattle.stream.specs.Streams.{newInbound, onData, onWindowUpdate, reset, acknowledged}
 use Rattle.stream.specs.declared.Stream.{Stream}
 use Rattle.stream.specs.declared.Wakes.{Wakes}
 use Rattle.stream.specs.declared.Received.{Received}
@@ -19,7 +19,7 @@ use Rattle.stream.specs.declared.Received.the-variants.{Taken, ProtocolError}
 use Rattle.stream.specs.declared.Sent.{Sent}
 use Rattle.stream.specs.declared.Sent.the-variants.{Frame, Nothing}
 use Rattle.rules.specs.State.{isRemote}
-use Rattle.rules.specs.Frames.{quiet, whose, openedBy}
+use Rattle.rules.specs.Frames.{quiet, whose, bodyLength}
 use Rattle.rules.specs.declared.Slot.{Slot}
 use Rattle.rules.specs.declared.Reply.the-variants as reply
 use Rattle.rules.specs.declared.Which.{Which}
@@ -61,10 +61,24 @@ terminate woke code = goAway woke (goAwayHeader code)
 abbrev pub acked : Header → Stream → Stream
 acked h s = cond (contains (h .flags) ack) (acknowledged s) s
 
--- an answer that leaves the stream as the ACK step made it
-abbrev pub answerKnown : Known → Answer → Action
-answerKnown (known.At i s) a = action.Store i s true a
-answerKnown known.Nowhere a = action.Answer a
+-- code 1, which leaves the stream as the ACK step made it
+abbrev pub violated : Bool → Known → Action
+violated woke (known.At i s) = action.Store i s true (terminate woke protocolError)
+violated woke known.Nowhere = action.Answer (terminate woke protocolError)
+
+-- ---- what a stream makes of the frame: a WindowUpdate's credit, or a Data frame's body
+
+abbrev pub isUpdate : Tag → Bool
+isUpdate tag.Data = false
+isUpdate tag.WindowUpdate = true
+isUpdate tag.Ping = false
+isUpdate tag.GoAway = false
+
+unfoldable pub receive : Stream → Header → Received
+receive s h =
+    cond (isUpdate (h .tag))
+    (onWindowUpdate s (record { 0 = h .length .0 }) (contains (h .flags) fin))
+    (onData s (h .length .0) (contains (h .flags) fin))
 
 -- ---- RST
 
@@ -75,14 +89,12 @@ onReset woke (known.At i s) =
 
 -- ---- SYN
 
-abbrev pub unknownSyn : Limits → Bool → Known → Answer → Action → Action
-unknownSyn l woke (known.At i s) full next = action.Store i s true (terminate woke protocolError)
-unknownSyn l woke known.Nowhere full next = cond (leb (l .«max_num_streams») (l .listed)) (action.Answer full) next
+-- "M streams in the table, code 2 .. WindowUpdate: the same but M full is code 1"
+abbrev pub fullCode : Tag → ℕ
+fullCode k = cond (isUpdate k) protocolError internalError
 
--- the tests that Data and WindowUpdate share, before `next`; `full` is the answer where the table is full
-unfoldable pub synAction : Limits → Bool → Known → StreamId → Answer → Action → Action
-synAction l woke k id full next =
-    cond (isRemote (l .mode) id) (unknownSyn l woke k full next) (answerKnown k (terminate woke protocolError))
+abbrev pub full : Bool → Header → Answer
+full woke h = terminate woke (fullCode (h .tag))
 
 -- a new stream in the lowest free slot, with a body of n bytes
 abbrev pub newAction : Which → ℕ → Bool → Stream → ℕ → Action
@@ -90,26 +102,22 @@ newAction which.None room woke s n = action.Refuse reply.NoSlot
 newAction (which.At i) room woke s n =
     cond (ltb room n) (action.Refuse reply.NoRoom) (action.New i s (done woke (which.At i) (value.Of (s .id .0)) Nothing quiet))
 
--- the stream that a first Data frame makes, and a first WindowUpdate
-abbrev pub firstData : ℕ → Bool → Which → Header → ℕ → Action
-firstData room woke v h now =
-    cond (ltb initialWindow (h .length .0))
-    (action.Answer (terminate woke protocolError))
-    (newAction v room woke (dataTaken (newInbound (h .«stream_id») initialWindow now) (h .length .0) (contains (h .flags) fin)) (h .length .0))
+-- a stream is made, and takes the frame
+abbrev pub made : ℕ → Bool → Which → ℕ → Received → Action
+made room woke v n ProtocolError = violated woke known.Nowhere
+made room woke v n (Taken s w) = newAction v room woke s n
 
-abbrev pub firstUpdate : ℕ → Bool → Which → Header → ℕ → Action
-firstUpdate room woke v h now =
-    cond (ltb top (h .length .0 + initialWindow))
-    (action.Answer (terminate woke protocolError))
-    (newAction v room woke (openedBy h now) 0)
+abbrev pub first : ℕ → Bool → Which → Header → ℕ → Action
+first room woke v h now = made room woke v (bodyLength (h .tag) (h .length .0)) (receive (newInbound (h .«stream_id») initialWindow now) h)
 
-unfoldable pub onSynData : Limits → Bool → Known → Which → Header → ℕ → Action
-onSynData l woke k v h now =
-    synAction l woke k (h .«stream_id») (terminate woke internalError) (firstData (l .room) woke v h now)
+-- "id of the wrong parity, 2 with code 1; id in the table, code 1; M streams in the table"
+abbrev pub unknownSyn : Limits → Bool → Known → Which → Header → ℕ → Action
+unknownSyn l woke (known.At i s) v h now = violated woke (known.At i s)
+unknownSyn l woke known.Nowhere v h now =
+    cond (leb (l .«max_num_streams») (l .listed)) (action.Answer (full woke h)) (first (l .room) woke v h now)
 
-unfoldable pub onSynUpdate : Limits → Bool → Known → Which → Header → ℕ → Action
-onSynUpdate l woke k v h now =
-    synAction l woke k (h .«stream_id») (terminate woke protocolError) (firstUpdate (l .room) woke v h now)
+unfoldable pub onSyn : Limits → Bool → Known → Which → Header → ℕ → Action
+onSyn l woke k v h now = cond (isRemote (l .mode) (h .«stream_id»)) (unknownSyn l woke k v h now) (violated woke k)
 
 -- ---- a known stream
 
@@ -117,24 +125,23 @@ onSynUpdate l woke k v h now =
 abbrev pub stays : Bool → Stream → Bool
 stays finished s = cond finished (not (isClosed (s .state))) true
 
-abbrev pub dataTake : Slot → Stream → ℕ → Bool → Bool → ℕ → Received → Action
-dataTake i s room woke finished n ProtocolError = action.Store i s true (terminate woke protocolError)
-dataTake i s room woke finished n (Taken t w) =
+abbrev pub take : Slot → Stream → ℕ → Bool → Bool → ℕ → Received → Action
+take i s room woke finished n ProtocolError = violated woke (known.At i s)
+take i s room woke finished n (Taken t w) =
     cond (ltb room n) (action.Refuse reply.NoRoom) (action.Queue i t (stays finished t) (told woke i w))
 
-unfoldable pub onKnownData : ℕ → Bool → Known → Header → Action
-onKnownData room woke known.Nowhere h = action.Answer (noAction woke)
-onKnownData room woke (known.At i s) h =
-    dataTake i s room woke (contains (h .flags) fin) (h .length .0) (onData s (h .length .0) (contains (h .flags) fin))
+unfoldable pub onKnown : ℕ → Bool → Known → Header → Action
+onKnown room woke known.Nowhere h = action.Answer (noAction woke)
+onKnown room woke (known.At i s) h =
+    take i s room woke (contains (h .flags) fin) (bodyLength (h .tag) (h .length .0)) (receive s h)
 
-abbrev pub updateTake : Slot → Stream → Bool → Bool → Received → Action
-updateTake i s woke finished ProtocolError = action.Store i s true (terminate woke protocolError)
-updateTake i s woke finished (Taken t w) = action.Store i t (stays finished t) (told woke i w)
+-- ---- Data and WindowUpdate
 
-unfoldable pub onKnownUpdate : Bool → Known → Header → Action
-onKnownUpdate woke known.Nowhere h = action.Answer (noAction woke)
-onKnownUpdate woke (known.At i s) h =
-    updateTake i s woke (contains (h .flags) fin) (onWindowUpdate s (record { 0 = h .length .0 }) (contains (h .flags) fin))
+unfoldable pub streamAction : Limits → Bool → Known → Which → Header → ℕ → Action
+streamAction l woke k v h now =
+    cond (contains (h .flags) rst)
+    (onReset woke k)
+    (cond (contains (h .flags) syn) (onSyn l woke k v h now) (onKnown (l .room) woke k h))
 
 -- ---- Ping
 

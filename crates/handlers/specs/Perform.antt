@@ -2,20 +2,20 @@
 use mathlib.Core.Bool.{Bool, true, false, cond}
 use mathlib.Core.List.{List, [], _++_}
 use Prim.Native.Nat.{ℕ}
-use Rattle.frame.specs.Header.{contains, ack, syn, rst}
+use Rattle.frame.specs.Header.{contains, ack}
 use Rattle.frame.specs.declared.header.Header.{Header}
+use Rattle.frame.specs.declared.header.Tag.{Tag}
+use Rattle.frame.specs.declared.header.Tag.the-variants as tag
 use Rattle.stream.specs.declared.Stream.{Stream}
 use Rattle.rules.specs.Replies.{Outcome}
 use Rattle.rules.specs.Lists.{Place, at, nowhere}
 use Rattle.rules.specs.State.{Entry, Conn, entry, withSlot, withOpenWait, listedCount, room}
 use Rattle.rules.specs.Ending.{Result, gives, refuse}
 use Rattle.rules.specs.Frames.{newEntry}
-use Rattle.handlers.specs.Actions.{acked, onReset, onSynData, onSynUpdate, onKnownData, onKnownUpdate}
+use Rattle.handlers.specs.Actions.{acked}
 use Rattle.handlers.specs.declared.Answer.{Answer}
 use Rattle.handlers.specs.declared.Known.{Known}
 use Rattle.handlers.specs.declared.Known.the-variants as known
-use Rattle.rules.specs.declared.Which.{Which}
-use Rattle.rules.specs.declared.Which.the-variants as which
 use Rattle.handlers.specs.declared.Limits.{Limits}
 use Rattle.handlers.specs.declared.Action.{Action}
 use Rattle.handlers.specs.declared.Action.the-variants as action
@@ -28,13 +28,17 @@ outcomeOf a = record { reply = a .reply; slot = a .slot; value = a .value; heade
 abbrev pub changed : Entry → Stream → Bool → List ℕ → Entry
 changed e s listed b = record { held = true; listed = listed; stream = s; bytes = e .bytes ++ b }
 
--- `c` is the connection before the frame, and `a` with its open wait as the ACK step left it
-unfoldable pub perform : Conn → Conn → List ℕ → Action → Result
-perform c a body (action.Refuse r) = refuse c r
-perform c a body (action.Answer o) = gives (outcomeOf o) a
-perform c a body (action.Store i s listed o) = gives (outcomeOf o) (withSlot a (i .0) (changed (entry (a .slots) (i .0)) s listed []))
-perform c a body (action.Queue i s listed o) = gives (outcomeOf o) (withSlot a (i .0) (changed (entry (a .slots) (i .0)) s listed body))
-perform c a body (action.New i s o) = gives (outcomeOf o) (withSlot a (i .0) (newEntry s body))
+-- an open that the answer wakes waits no more
+abbrev pub heard : Conn → Answer → Conn
+heard c o = withOpenWait c (cond (o .wakes .opener) false (c .openWait))
+
+-- 7 and 8 undo the ACK step: what it left of the stream is not stored, and they wake no open
+unfoldable pub perform : Conn → List ℕ → Action → Result
+perform c body (action.Refuse r) = refuse c r
+perform c body (action.Answer o) = gives (outcomeOf o) (heard c o)
+perform c body (action.Store i s listed o) = gives (outcomeOf o) (withSlot (heard c o) (i .0) (changed (entry (c .slots) (i .0)) s listed []))
+perform c body (action.Queue i s listed o) = gives (outcomeOf o) (withSlot (heard c o) (i .0) (changed (entry (c .slots) (i .0)) s listed body))
+perform c body (action.New i s o) = gives (outcomeOf o) (withSlot (heard c o) (i .0) (newEntry s body))
 
 -- ---- what the handlers are shown of a connection
 
@@ -46,22 +50,13 @@ knownAt c h (at i) = known.At (record { 0 = i }) (acked h (entry (c .slots) i .s
 abbrev pub limitsOf : Conn → Limits
 limitsOf c = record { mode = c .config .mode; «max_num_streams» = c .config .«max_num_streams»; listed = listedCount (c .slots); room = room c }
 
--- whether the frame's ACK wakes an open, and the connection without that wait
-abbrev pub wakesOpen : Conn → Header → Bool
-wakesOpen c h = cond (contains (h .flags) ack) (c .openWait) false
+-- whether the frame's ACK wakes an open
+abbrev pub wakesOpen : Bool → Header → Bool
+wakesOpen waits h = cond (contains (h .flags) ack) waits false
 
-abbrev pub withoutWait : Conn → Header → Conn
-withoutWait c h = cond (contains (h .flags) ack) (withOpenWait c false) c
-
--- the action of a Data frame, and of a WindowUpdate
-unfoldable pub dataAction : Limits → Bool → Known → Which → Header → ℕ → Action
-dataAction l woke k v h now =
-    cond (contains (h .flags) rst)
-    (onReset woke k)
-    (cond (contains (h .flags) syn) (onSynData l woke k v h now) (onKnownData (l .room) woke k h))
-
-unfoldable pub updateAction : Limits → Bool → Known → Which → Header → ℕ → Action
-updateAction l woke k v h now =
-    cond (contains (h .flags) rst)
-    (onReset woke k)
-    (cond (contains (h .flags) syn) (onSynUpdate l woke k v h now) (onKnownUpdate woke k h))
+-- Data and WindowUpdate, the frames of a stream
+abbrev pub ofStream : Tag → Bool
+ofStream tag.Data = true
+ofStream tag.WindowUpdate = true
+ofStream tag.Ping = false
+ofStream tag.GoAway = false

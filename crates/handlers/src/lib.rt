@@ -8,13 +8,15 @@ pub mod read;
 pub mod syn;
 
 ghost use mathlib.Core.Path.{_≡_};
-ghost use Rattle.handlers.specs.Actions.{acked, onReset};
-ghost use Rattle.handlers.specs.Perform.{dataAction, updateAction};
+ghost use Rattle.handlers.specs.Actions.{acked, onReset, isUpdate, receive, violated, streamAction};
+ghost use Rattle.rules.specs.Frames.{bodyLength};
 use frame::header::ACK;
+use frame::header::FIN;
 use frame::header::Header;
 use frame::header::RST;
 use frame::header::SYN;
 use frame::header::StreamId;
+use frame::header::Tag;
 use rtt::Rtt;
 use rules::Mode;
 use rules::Reply;
@@ -22,6 +24,7 @@ use rules::Slot;
 use rules::Value;
 use rules::Which;
 use rules::Woke;
+use stream::Received;
 use stream::Sent;
 use stream::Stream;
 
@@ -117,29 +120,57 @@ pub fn on_reset(woke: bool, known: Known) -> Action
     Action::Store(slot, closed, false, answer)
 }
 
-// What a Data frame does. The vacancy matters only with SYN and without RST.
-pub fn on_data(
-    limits: Limits,
-    woke: bool,
-    known: Known,
-    vacancy: Which,
-    header: Header,
-    now: u64,
-) -> Action
-    ensures { λ r. ⌜ r ≡ dataAction limits woke known vacancy header now ⌝ }
+// How long the frame's body is by its header: a Data frame's length, and none on another type.
+pub fn body_length(header: Header) -> u32
+    ensures { λ r. ⌜ r ≡ bodyLength (header .tag) (header .length .0) ⌝ }
 {
-    let flags = header.flags;
-    if flags.contains(RST) {
-        return on_reset(woke, known);
+    let tag = header.tag;
+    match tag {
+        Tag::Data => header.length.0,
+        Tag::WindowUpdate => 0,
+        Tag::Ping => 0,
+        Tag::GoAway => 0,
     }
-    if flags.contains(SYN) {
-        return syn::on_syn_data(limits, woke, known, vacancy, header, now);
-    }
-    known_stream::on_known_data(limits.room, woke, known, header)
 }
 
-// What a WindowUpdate does. The vacancy matters only with SYN and without RST.
-pub fn on_window_update(
+pub(crate) fn is_window_update(header: Header) -> bool
+    ensures { λ r. ⌜ r ≡ isUpdate (header .tag) ⌝ }
+{
+    let tag = header.tag;
+    match tag {
+        Tag::Data => false,
+        Tag::WindowUpdate => true,
+        Tag::Ping => false,
+        Tag::GoAway => false,
+    }
+}
+
+// What the stream makes of the frame: a WindowUpdate's credit, or a Data frame's body.
+pub(crate) fn receive(stream: Stream, header: Header) -> Received
+    ensures { λ r. ⌜ r ≡ receive stream header ⌝ }
+{
+    let flags = header.flags;
+    let fin = flags.contains(FIN);
+    if is_window_update(header) {
+        let credit = header.credit();
+        return stream.on_window_update(credit, fin);
+    }
+    stream.on_data(header.length.0, fin)
+}
+
+// A GoAway with code 1. The stream stays as the ACK step left it.
+pub(crate) fn violated(woke: bool, known: Known) -> Action
+    ensures { λ r. ⌜ r ≡ violated woke known ⌝ }
+{
+    let answer = answers::protocol_error(woke);
+    match known {
+        Known::At(slot, stream) => Action::Store(slot, stream, true, answer),
+        Known::Nowhere => Action::Answer(answer),
+    }
+}
+
+// What a Data frame or a WindowUpdate does. The vacancy matters only with SYN.
+pub fn on_stream(
     limits: Limits,
     woke: bool,
     known: Known,
@@ -147,14 +178,14 @@ pub fn on_window_update(
     header: Header,
     now: u64,
 ) -> Action
-    ensures { λ r. ⌜ r ≡ updateAction limits woke known vacancy header now ⌝ }
+    ensures { λ r. ⌜ r ≡ streamAction limits woke known vacancy header now ⌝ }
 {
     let flags = header.flags;
     if flags.contains(RST) {
         return on_reset(woke, known);
     }
     if flags.contains(SYN) {
-        return syn::on_syn_update(limits, woke, known, vacancy, header, now);
+        return syn::on_syn(limits, woke, known, vacancy, header, now);
     }
-    known_stream::on_known_update(woke, known, header)
+    known_stream::on_known(limits.room, woke, known, header)
 }

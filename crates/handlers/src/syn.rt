@@ -1,14 +1,17 @@
 // A frame with SYN, which opens a stream.
 ghost use mathlib.Core.Path.{_≡_};
 ghost use Rattle.rules.specs.State.{isRemote};
-ghost use Rattle.handlers.specs.Actions.{answerKnown, unknownSyn, synAction, newAction, firstData, firstUpdate, onSynData, onSynUpdate};
+ghost use Rattle.handlers.specs.Actions.{full, newAction, first, onSyn};
 use crate::Action;
 use crate::Answer;
 use crate::Known;
 use crate::Limits;
 use crate::answers;
+use crate::body_length;
+use crate::is_window_update;
+use crate::receive;
+use crate::violated;
 use frame::header::DEFAULT_CREDIT;
-use frame::header::FIN;
 use frame::header::Header;
 use frame::header::StreamId;
 use rules::Mode;
@@ -30,46 +33,14 @@ pub fn is_valid_remote_id(mode: Mode, id: StreamId) -> bool
     }
 }
 
-// The answer, with the stream as the ACK step left it.
-fn answer_known(known: Known, answer: Answer) -> Action
-    ensures { λ r. ⌜ r ≡ answerKnown known answer ⌝ }
+// The answer where M streams are in the table.
+fn full(woke: bool, header: Header) -> Answer
+    ensures { λ r. ⌜ r ≡ full woke header ⌝ }
 {
-    match known {
-        Known::At(slot, stream) => Action::Store(slot, stream, true, answer),
-        Known::Nowhere => Action::Answer(answer),
+    if is_window_update(header) {
+        return answers::protocol_error(woke);
     }
-}
-
-fn unknown_syn(limits: Limits, woke: bool, known: Known, full: Answer, next: Action) -> Action
-    ensures { λ r. ⌜ r ≡ unknownSyn limits woke known full next ⌝ }
-{
-    let Known::At(slot, stream) = known else {
-        if limits.max_num_streams <= limits.listed {
-            return Action::Answer(full);
-        }
-        return next;
-    };
-    let answer = answers::protocol_error(woke);
-    Action::Store(slot, stream, true, answer)
-}
-
-// The tests before `next`; `full` is the answer where the table is full.
-fn syn_action(
-    limits: Limits,
-    woke: bool,
-    known: Known,
-    id: StreamId,
-    full: Answer,
-    next: Action,
-) -> Action
-    ensures { λ r. ⌜ r ≡ synAction limits woke known id full next ⌝ }
-{
-    let mode = limits.mode;
-    if is_valid_remote_id(mode, id) {
-        return unknown_syn(limits, woke, known, full, next);
-    }
-    let answer = answers::protocol_error(woke);
-    answer_known(known, answer)
+    answers::internal_error(woke)
 }
 
 // The stream in the lowest free slot, with a body of n bytes.
@@ -96,36 +67,21 @@ fn new_action(vacancy: Which, room: u32, woke: bool, stream: Stream, n: u32) -> 
     Action::New(slot, stream, answer)
 }
 
-fn first_data(room: u32, woke: bool, vacancy: Which, header: Header, now: u64) -> Action
-    ensures { λ r. ⌜ r ≡ firstData room woke vacancy header now ⌝ }
+// A stream is made, and takes the frame.
+fn first(room: u32, woke: bool, vacancy: Which, header: Header, now: u64) -> Action
+    ensures { λ r. ⌜ r ≡ first room woke vacancy header now ⌝ }
 {
-    let flags = header.flags;
-    let fin = flags.contains(FIN);
     let fresh = Stream::new_inbound(header.stream_id, DEFAULT_CREDIT, now);
-    let received = fresh.on_data(header.length.0, fin);
+    let received = receive(fresh, header);
     let Received::Taken(stream, _) = received else {
-        let answer = answers::protocol_error(woke);
-        return Action::Answer(answer);
+        return violated(woke, Known::Nowhere);
     };
-    new_action(vacancy, room, woke, stream, header.length.0)
+    let n = body_length(header);
+    new_action(vacancy, room, woke, stream, n)
 }
 
-fn first_update(room: u32, woke: bool, vacancy: Which, header: Header, now: u64) -> Action
-    ensures { λ r. ⌜ r ≡ firstUpdate room woke vacancy header now ⌝ }
-{
-    let flags = header.flags;
-    let fin = flags.contains(FIN);
-    let fresh = Stream::new_inbound(header.stream_id, DEFAULT_CREDIT, now);
-    let credit = header.credit();
-    let received = fresh.on_window_update(credit, fin);
-    let Received::Taken(stream, _) = received else {
-        let answer = answers::protocol_error(woke);
-        return Action::Answer(answer);
-    };
-    new_action(vacancy, room, woke, stream, 0)
-}
-
-pub fn on_syn_data(
+// The tests in the document's order, then the stream.
+pub fn on_syn(
     limits: Limits,
     woke: bool,
     known: Known,
@@ -133,24 +89,18 @@ pub fn on_syn_data(
     header: Header,
     now: u64,
 ) -> Action
-    ensures { λ r. ⌜ r ≡ onSynData limits woke known vacancy header now ⌝ }
+    ensures { λ r. ⌜ r ≡ onSyn limits woke known vacancy header now ⌝ }
 {
-    let full = answers::internal_error(woke);
-    let next = first_data(limits.room, woke, vacancy, header, now);
-    syn_action(limits, woke, known, header.stream_id, full, next)
-}
-
-pub fn on_syn_update(
-    limits: Limits,
-    woke: bool,
-    known: Known,
-    vacancy: Which,
-    header: Header,
-    now: u64,
-) -> Action
-    ensures { λ r. ⌜ r ≡ onSynUpdate limits woke known vacancy header now ⌝ }
-{
-    let full = answers::protocol_error(woke);
-    let next = first_update(limits.room, woke, vacancy, header, now);
-    syn_action(limits, woke, known, header.stream_id, full, next)
+    let mode = limits.mode;
+    if !is_valid_remote_id(mode, header.stream_id) {
+        return violated(woke, known);
+    }
+    let Known::Nowhere = known else {
+        return violated(woke, known);
+    };
+    if limits.max_num_streams <= limits.listed {
+        let answer = full(woke, header);
+        return Action::Answer(answer);
+    }
+    first(limits.room, woke, vacancy, header, now)
 }
