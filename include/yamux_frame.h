@@ -1,9 +1,17 @@
 /* Yamux headers for C: the two proved functions of the crate `frame`. Link target/staticlib/libframe.a, which
- * `rt staticlib frame` writes; examples/header.c is a program that does.
+ * `rt staticlib frame` writes for x86-64; it needs no other library. examples/header.c is a program that does.
+ * docs/REFERENCE.md says what the fields mean. The rest of the engine cannot be called from C.
  *
- * Every argument is judged: no value makes a call fail in any way but by its reply.
- * What the caller owes is what C cannot say: a buffer is `len` readable (decode) or writable (encode) bytes, the
- * numbers are writable, and no two of the things lent to one call overlap. */
+ * Every argument is judged: no value makes a call fail in any way but by its reply. The functions keep nothing between
+ * calls, so any number of threads may call them at once, each on memory of its own.
+ *
+ * What C cannot say is the caller's duty:
+ * - buf points to `len` bytes, readable for decode and writable for encode;
+ * - type, flags, stream_id and length of decode point to writable numbers, each aligned for its type (buf needs no
+ *   alignment); none of them is null;
+ * - no two of the things lent to one call overlap;
+ * - while a call runs, nothing else (another thread, a signal handler, a device) writes what is lent to it, nor reads
+ *   what it may write. */
 #ifndef YAMUX_FRAME_H
 #define YAMUX_FRAME_H
 
@@ -12,17 +20,25 @@
 
 #define YAMUX_HEADER_SIZE 12u
 
-/* types */
-#define YAMUX_DATA 0u
-#define YAMUX_WINDOW_UPDATE 1u
-#define YAMUX_PING 2u
-#define YAMUX_GO_AWAY 3u
+/* the bytes that each side of a new stream may send before any window update */
+#define YAMUX_INITIAL_WINDOW 262144u
+
+/* types, with what the length field is */
+#define YAMUX_DATA 0u          /* the bytes of the body, which follows the header */
+#define YAMUX_WINDOW_UPDATE 1u /* the credit: so many bytes more may be sent */
+#define YAMUX_PING 2u          /* a value that the answer repeats */
+#define YAMUX_GO_AWAY 3u       /* one of the codes below */
 
 /* flags */
 #define YAMUX_SYN 1u
 #define YAMUX_ACK 2u
 #define YAMUX_FIN 4u
 #define YAMUX_RST 8u
+
+/* codes of a GoAway */
+#define YAMUX_GO_AWAY_NORMAL 0u
+#define YAMUX_GO_AWAY_PROTOCOL_ERROR 1u
+#define YAMUX_GO_AWAY_INTERNAL_ERROR 2u
 
 /* replies */
 #define YAMUX_DONE 0u
