@@ -7,6 +7,7 @@ use native.Mathlib.Decide.{ℕ-discrete}
 use native.Mathlib.Omega.{arith}
 use lib.ListN.{set}
 use lib.Seq.{getD-set-other, set-set}
+use Rattle.flow_control.specs.Windows.{growthReturned}
 use Rattle.stream.specs.Streams.{dropped}
 use Rattle.stream.specs.declared.Stream.{Stream}
 use Rattle.rules.specs.Lists.{Place, at, nowhere}
@@ -20,7 +21,7 @@ use Rattle.table.specs.declared.row.Row.{Row}
 use Rattle.rules.specs.declared.Which.{Which}
 use Rattle.rules.specs.declared.Which.the-variants as which
 use Rattle.handlers.specs.Perform.{outcomeOf, perform}
-use Rattle.handlers.specs.Locals.{onDrop, tableAt, freed, growthReturned}
+use Rattle.handlers.specs.Locals.{onDrop, tableAt, freed}
 use Rattle.handlers.specs.declared.Answer.{Answer}
 use Rattle.handlers.proofs.Locals.{drop-performs}
 use Rattle.memory.specs.Moves.{Advances, Moved, Frees}
@@ -55,7 +56,7 @@ module _ (c : Connection) (t l p : List ℕ) (v : Valid c t l p) (i : Slot) (bel
   row = rowAt t (c .memory .slots) (i .0)
 
   abbrev growth : ℕ
-  growth = growthReturned (c .growth) (row .stream)
+  growth = growthReturned (c .growth) (row .stream .flow)
 
   abbrev rule : Place → Result
   rule q = let x = withGrowth (absOf c t l p) growth in freed (i .0) (perform x x [] (onDrop i (tableAt (absOf c t l p) q)))

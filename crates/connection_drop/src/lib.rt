@@ -110,7 +110,8 @@ fn release(c: Connection, table: &mut [u64], links: &mut [u32], slot: Slot, row:
 {
     let memory = c.memory;
     let stream = row.stream;
-    let growth = calls::growth_returned(c.growth, stream);
+    let flow = stream.flow;
+    let growth = flow.growth_returned(c.growth);
     let found = table::find(table, memory.slots, stream.id);
     let removed = remove(memory, table, slot, found);
     let left = removed.memory;

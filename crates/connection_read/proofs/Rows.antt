@@ -7,15 +7,12 @@ use native.Mathlib.Omega.{arith}
 use lib.Dec.{eqb}
 use lib.ListN.{length}
 use Rattle.rules.specs.Replies.{mayGive}
-use Rattle.rtt.specs.declared.RoundTrip.{RoundTrip}
-use Rattle.flow_control.specs.Windows.{nextWindowUpdate}
 use Rattle.stream.specs.States.{canRead}
-use Rattle.stream.specs.Streams.{withWaits, stepTaken, sendWindowUpdate}
-use Rattle.stream.specs.declared.Sent.the-variants.{Nothing}
-use Rattle.stream.specs.declared.Step.the-variants.{Skipped}
+use Rattle.stream.specs.Streams.{withWaits, sendWindowUpdate}
 use Rattle.stream.specs.declared.Stream.{Stream}
 use Rattle.stream.specs.declared.Updated.{Updated}
-use Rattle.stream.specs.declared.Reading.the-variants as reading
+use Rattle.stream.specs.declared.ReadEnd.the-variants as reading
+use Rattle.stream.proofs.Laws.{updated as updated-keeps}
 use Rattle.rules.specs.State.{Entry, entry}
 use Rattle.rules.specs.Ending.{gives}
 use Rattle.rules.specs.Calls.{windowStep}
@@ -48,15 +45,6 @@ read-steps : (i : Slot) (u : Updated) (unread asked : ℕ) → Steps u (min aske
 unfolding onRead
 read-steps i u unread asked = ended-steps i u (min asked unread) (eqb (min asked unread) 0) (canRead (u .stream .state))
 
--- the window step leaves the id
-updated-id : (s : Stream) (unread now : ℕ) (rt : RoundTrip) (limit m growth : ℕ) → sendWindowUpdate s unread now rt limit m growth .stream .id ≡ s .id
-updated-id s unread now rt limit m growth = go (canRead (s .state))
-  where
-    go : (b : Bool) →
-        cond b (stepTaken s (nextWindowUpdate (s .flow) unread now rt limit m growth)) (record { stream = s; growth = growth; step = Skipped; sent = Nothing }) .stream .id ≡ s .id
-    go true = refl
-    go false = refl
-
 module _ (c : Connection) (i : ℕ) (row : Row) (asked time : ℕ) where
   abbrev slot : Slot
   slot = record { 0 = i }
@@ -74,7 +62,7 @@ module _ (c : Connection) (i : ℕ) (row : Row) (asked time : ℕ) where
   step-giving = steps .giving
 
   step-id : stepOf c slot row asked time .stream .id ≡ row .stream .id
-  step-id = steps .id ∙ updated-id (row .stream) (row .queue .unread) time (c .rtt .«round_trip») (c .config .limit) (c .config .«max_num_streams») (c .growth)
+  step-id = steps .id ∙ updated-keeps (row .stream) _ .same-id
 
   module _ (t l p : List ℕ) (h : Holds c t i row) where
     abbrev x : Entry

@@ -8,6 +8,7 @@ ghost use Rattle.connection_read.specs.Promises.{stepOf, Takes, ReadsRow
 use connection::Connection;
 use connection::Done;
 use connection::Handle;
+use flow_control::Conditions;
 use handlers::ReadStep;
 use rules::Slot;
 use table::row::Row;
@@ -21,14 +22,14 @@ fn step_of(c: Connection, slot: Slot, row: Row, asked: usize, time: u64) -> Read
     let round_trip = rtt.get();
     let stream = row.stream;
     let queue = row.queue;
-    let updated = stream.send_window_update(
-        queue.unread,
+    let updated = stream.send_window_update(Conditions {
+        unread: queue.unread,
         time,
         round_trip,
-        config.limit,
-        config.max_num_streams,
-        c.growth,
-    );
+        limit: config.limit,
+        max_num_streams: config.max_num_streams,
+        growth: c.growth,
+    });
     handlers::read::on_read(slot, updated, queue.unread, asked)
 }
 

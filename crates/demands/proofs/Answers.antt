@@ -11,8 +11,8 @@ use borrow.Author.Tests.{le-ltb}
 use Rattle.flow_control.specs.Windows.{top}
 use Rattle.stream.specs.Streams as stream
 use Rattle.stream.specs.declared.Updated.{Updated}
-use Rattle.stream.specs.declared.Reading.{Reading}
-use Rattle.stream.specs.declared.Reading.the-variants as reading
+use Rattle.stream.specs.declared.ReadEnd.{ReadEnd}
+use Rattle.stream.specs.declared.ReadEnd.the-variants as reading
 use Rattle.rules.specs.declared.Mode.{Mode}
 use Rattle.rules.specs.declared.Mode.the-variants.{Client, Server}
 use Rattle.rules.specs.Settings.{lastTime}
@@ -52,7 +52,7 @@ abbrev Front : Entry → Result → Type 0
 Front e r = r .outcome .bytes ≡ take (length (r .outcome .bytes)) (e .bytes)
 
 module _ (c : Conn) (i : ℕ) (e : Entry) (u : Updated) (n : ℕ) where
-  front-rest : (r : Reading) → Front e (readRest c i e u n r)
+  front-rest : (r : ReadEnd) → Front e (readRest c i e u n r)
   unfolding readRest
   front-rest (reading.Done s) = take-again n (e .bytes)
   front-rest (reading.Wait s) = refl

@@ -18,7 +18,7 @@ use Rattle.stream.specs.declared.State.{State}
 use Rattle.stream.specs.declared.State.the-variants.{Open, SendClosed, RecvClosed, Closed}
 use Rattle.stream.specs.declared.Stream.{Stream}
 use Rattle.stream.specs.declared.Updated.{Updated}
-use Rattle.stream.specs.declared.Reading.the-variants as reading
+use Rattle.stream.specs.declared.ReadEnd.the-variants as reading
 use Rattle.stream.specs.declared.Written.the-variants as written
 use Rattle.rules.specs.declared.Reply.the-variants as reply
 use Rattle.rules.specs.State.{Entry, Conn, vacant, entry, withSlot, withStream, withGrowth}
@@ -94,7 +94,19 @@ module _ (c : Conn) (v : Inv c) (i : ℕ) (held : entry (c .slots) i .held ≡ t
   unfolding windowStep
   steps now =
       split Steps (canRead (old .stream .state))
-      (λ r. ((refl, λ e. e), window (old .stream .flow) (length (old .bytes)) now (c .growth) (c .config .limit) (c .config .«max_num_streams») (v .good i .flows) (v .bounded) (c .pings .«round_trip»)))
+      (λ r. (
+        (refl, λ e. e),
+        window (old .stream .flow)
+            (record {
+              unread = length (old .bytes);
+              time = now;
+              «round_trip» = c .pings .«round_trip»;
+              limit = c .config .limit;
+              «max_num_streams» = c .config .«max_num_streams»;
+              growth = c .growth;
+            })
+            (v .good i .flows) (v .bounded),
+      ))
       (λ r. ((refl, λ e. e), same-windows (old .stream .flow) refl refl (v .good i .flows .sends)))
 
   read-done : (u : Updated) → Steps u → (n : ℕ) → n ≤ length (old .bytes) → ReadOk (readRest c i old u n (reading.Done (u .stream)))

@@ -17,7 +17,7 @@ use Rattle.stream.specs.declared.State.{State}
 use Rattle.stream.specs.declared.State.the-variants.{Open, SendClosed, RecvClosed, Closed}
 use Rattle.stream.specs.declared.Stream.{Stream}
 use Rattle.stream.specs.declared.Updated.{Updated}
-use Rattle.stream.specs.declared.Reading.the-variants as reading
+use Rattle.stream.specs.declared.ReadEnd.the-variants as reading
 use Rattle.rules.specs.declared.Reply.the-variants as reply
 use Rattle.rules.specs.Lists.{Place, at, nowhere}
 use Rattle.rules.specs.State.{Entry, Conn, vacant, entry, hasId, find, lowestFree, listedCount, unacknowledged, withStream, withGrowth, withPings}

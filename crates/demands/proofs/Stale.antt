@@ -18,7 +18,7 @@ use Rattle.stream.specs.Streams as stream
 use Rattle.stream.specs.declared.State.{State}
 use Rattle.stream.specs.declared.State.the-variants.{Closed}
 use Rattle.stream.specs.declared.Updated.{Updated}
-use Rattle.stream.specs.declared.Reading.{Reading}
+use Rattle.stream.specs.declared.ReadEnd.{ReadEnd}
 use Rattle.stream.specs.declared.Written.{Written}
 use Rattle.stream.specs.declared.Sent.the-variants.{Nothing}
 use Rattle.stream.specs.declared.Step.the-variants.{Skipped}
@@ -123,7 +123,7 @@ module _ (c : Conn) (old new : ℕ) (s : Stale c old new) where
   unfolding windowStep
   no-window now = rw unreadable
 
-  ends-done : (a b : Bool) (w d : Reading) → b ≡ false → cond a (cond b w d) d ≡ d
+  ends-done : (a b : Bool) (w d : ReadEnd) → b ≡ false → cond a (cond b w d) d ≡ d
   ends-done true b w d e = rw e
   ends-done false b w d e = refl
 
@@ -131,7 +131,7 @@ module _ (c : Conn) (old new : ℕ) (s : Stale c old new) where
       readRest c old older u n (stream.readEnd (u .stream) n) ≡ gives (onSlot old reply.Done (value.Of n) Nothing (take n (older .bytes))) (withSlot c old (readEntry older (older .stream) n))
   unfolding readRest
   stale-rest n u e =
-      rw e (ap (λ (r : Reading). readRest c old older (record { stream = older .stream; growth = c .growth; step = Skipped; sent = Nothing }) n r)
+      rw e (ap (λ (r : ReadEnd). readRest c old older (record { stream = older .stream; growth = c .growth; step = Skipped; sent = Nothing }) n r)
       (ends-done (eqb n 0) (canRead (older .stream .state)) _ _ unreadable))
 
   read-goes-on : cond (c .ended) (cond (c .config .«read_after_close») false true) false ≡ false

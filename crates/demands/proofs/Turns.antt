@@ -22,7 +22,7 @@ use Rattle.stream.specs.States.{canRead, canWrite}
 use Rattle.stream.specs.Streams as stream
 use Rattle.stream.specs.declared.Stream.{Stream}
 use Rattle.stream.specs.declared.Updated.{Updated}
-use Rattle.stream.specs.declared.Reading.the-variants as reading
+use Rattle.stream.specs.declared.ReadEnd.the-variants as reading
 use Rattle.stream.specs.declared.Written.the-variants as written
 use Rattle.rules.specs.declared.Reply.{Reply}
 use Rattle.rules.specs.declared.Reply.the-variants as reply

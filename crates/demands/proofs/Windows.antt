@@ -3,10 +3,10 @@ use mathlib.Core.Path.{_≡_}
 use Prim.Native.Nat.{ℕ, _+_, _*_, _≤_}
 use native.Mathlib.Omega.{arith}
 use Rattle.frame.specs.Header.{initialWindow}
-use Rattle.rtt.specs.declared.RoundTrip.{RoundTrip}
-use Rattle.flow_control.specs.Windows.{budget, nextWindowUpdate}
+use Rattle.flow_control.specs.Windows.{nextWindowUpdate}
+use Rattle.flow_control.specs.declared.Conditions.{Conditions}
 use Rattle.flow_control.specs.declared.FlowController.{FlowController}
-use Rattle.flow_control.proofs.Laws.{Fits, Steps, steps}
+use Rattle.flow_control.proofs.Laws.{Fits, steps}
 use Rattle.demands.proofs.Invariant.{Flows}
 
 -- what the window step leaves of a stream's windows and of the growth figure
@@ -15,13 +15,14 @@ pub record Grows (f : FlowController) (unread growth limit m : ℕ) (g : FlowCon
   pub figure : after + f .«max_receive_window» ≡ growth + g .«max_receive_window»
   pub bounded : after + m * initialWindow ≤ limit
 
-module _ (f : FlowController) (unread now growth limit m : ℕ) (h : Flows f unread) (b : growth + m * initialWindow ≤ limit) where
+module _ (f : FlowController) (c : Conditions) (h : Flows f (c .unread)) (b : c .growth + c .«max_num_streams» * initialWindow ≤ c .limit) where
   fits : Fits f
   fits = (omega (arith, h .fits, h .high), h .high, h .sends)
 
   -- by the laws of the step
-  grows : (g : FlowController) (after : ℕ) → Steps f unread now growth (budget limit m growth) g after → Grows f unread growth limit m g after
-  grows g after s =
+  pub window : Grows f (c .unread) (c .growth) (c .limit) (c .«max_num_streams») (nextWindowUpdate f c .flow) (nextWindowUpdate f c .granted .growth)
+  window =
+      let s = steps f c in
       let rises = s .rises fits in
       let room = s .room fits (omega (arith, h .fits)) in
       record {
@@ -29,6 +30,3 @@ module _ (f : FlowController) (unread now growth limit m : ℕ) (h : Flows f unr
         figure = omega (arith, s .figure, rises);
         bounded = omega (arith, s .figure, s .within, rises, b);
       }
-
-  pub window : (rt : RoundTrip) → Grows f unread growth limit m (nextWindowUpdate f unread now rt limit m growth .flow) (nextWindowUpdate f unread now rt limit m growth .growth)
-  window rt = grows _ _ (steps f unread now rt limit m growth)

@@ -1,6 +1,7 @@
 -- What the walks of the lent record share: plain data, the two contracts of one change of the flow state, by value and lent, and the types of their parts.
 --     Plain        a type of plain data: its row, its one machine value, and that what it owns is had for nothing
 --     Told N       a struct of the flow state and of N, which is told of the change
+--     Change       what one change of the flow state takes, what it tells, and its definition
 --     Valued, Lent     the contract of a change by value, `op flow x`; and of the same change to a record that is lent, which returns only what is told
 -- Assumes nothing: these are definitions, and the laws that the checked types have.
 use mathlib.Core.Path.{_≡_, refl, ap}
@@ -29,17 +30,19 @@ use denote.Enum.Laws as EL
 use denote.Triple.Spec.{tripleOf}
 use denote.Triple.Statement.{Contract}
 use denote.Triple.Clauses.{Ended, Clauses, closing}
+use Rattle.flow_control.specs.Windows.{nextWindowUpdate, consumeSend, increaseSend, consumeReceive}
 use Rattle.flow_control.specs.declared.FlowController.{FlowController}
+use Rattle.flow_control.specs.declared.Settled.{Settled}
 use Rattle.flow_control.proofs.FlowController as T
 use Rattle.flow_control.proofs.FlowController.Laws as T′
 use Rattle.frame.proofs.header.Credit as C
 use Rattle.frame.proofs.header.Credit.Laws as C′
-use Rattle.flow_control.proofs.lent.Reading as R
-use Rattle.flow_control.proofs.lent.Reading.Laws as R′
-use Rattle.flow_control.proofs.lent.Granted as G
-use Rattle.flow_control.proofs.lent.Granted.Laws as G′
-use Rattle.flow_control.proofs.lent.Moved as D
-use Rattle.flow_control.proofs.lent.Moved.Laws as D′
+use Rattle.flow_control.proofs.Conditions as R
+use Rattle.flow_control.proofs.Conditions.Laws as R′
+use Rattle.flow_control.proofs.Granted as G
+use Rattle.flow_control.proofs.Granted.Laws as G′
+use Rattle.flow_control.proofs.Moved as D
+use Rattle.flow_control.proofs.Moved.Laws as D′
 use Rattle.flow_control.proofs.Settled as S
 use Rattle.flow_control.proofs.Settled.Laws as S′
 use Rattle.flow_control.proofs.Verdict as N
@@ -79,6 +82,12 @@ pub record Told {M : Type 1} (𝓤 : URA M) (H : Heap 𝓤) (A : Atoms 𝓤) (N 
   pub told-is : (r : row .Denot) (w : Val) → Is row r (w ∷ []) → Is (N .row) (told r) (N .val (told r) ∷ [])
   pub owes : (f : FlowController) (n : N .row .Denot) → Is T.the-row f (mach f ∷ []) → Is (N .row) n (N .val n ∷ []) → Is row (make f n) (two (mach f) (N .val n) ∷ [])
   pub makes : Makes 𝓤 H A row (Is row)
+
+pub record Change {M : Type 1} (𝓤 : URA M) (H : Heap 𝓤) (A : Atoms 𝓤) : Type 2 where
+  pub arg : Plain 𝓤 H A
+  pub told : Plain 𝓤 H A
+  pub both : Told 𝓤 H A told
+  pub op : FlowController → arg .row .Denot → both .row .Denot
 
 -- ---- the record itself
 module _ {M : Type 1} (𝓤 : URA M) (H : Heap 𝓤) (A : Atoms 𝓤) (W : Given 𝓤 H A) where
@@ -121,7 +130,7 @@ module _ {M : Type 1} (𝓤 : URA M) (H : Heap 𝓤) (A : Atoms 𝓤) (P N : Pla
 
 -- ---- the types of the changes
 module _ {M : Type 1} (𝓤 : URA M) (H : Heap 𝓤) (A : Atoms 𝓤) (W : Given 𝓤 H A) where
-  abbrev pub count : Plain 𝓤 H A
+  abbrev count : Plain 𝓤 H A
   count = record {
     row = u32;
     mir = tyInt w32;
@@ -146,16 +155,16 @@ module _ {M : Type 1} (𝓤 : URA M) (H : Heap 𝓤) (A : Atoms 𝓤) (W : Given
     silent = silent;
   }
 
-  abbrev pub credit : Plain 𝓤 H A
+  abbrev credit : Plain 𝓤 H A
   credit = struct C.the-type C′.the-laws C′.the-plain (λ x. tt) (λ x f. refl)
 
-  abbrev pub reading : Plain 𝓤 H A
-  reading = struct R.the-type R′.the-laws R′.the-plain (λ x. tt) (λ x f. refl)
+  abbrev conditions : Plain 𝓤 H A
+  conditions = struct R.the-type R′.the-laws R′.the-plain (λ x. tt) (λ x f. refl)
 
-  abbrev pub granted : Plain 𝓤 H A
+  abbrev granted : Plain 𝓤 H A
   granted = struct G.the-type G′.the-laws G′.the-plain (λ x. tt) (λ x f. refl)
 
-  abbrev pub verdict : Plain 𝓤 H A
+  abbrev verdict : Plain 𝓤 H A
   verdict = record {
     row = N.the-row;
     mir = N′.mir;
@@ -167,7 +176,7 @@ module _ {M : Type 1} (𝓤 : URA M) (H : Heap 𝓤) (A : Atoms 𝓤) (W : Given
     silent = λ x f. refl;
   }
 
-  abbrev pub settled : Told 𝓤 H A verdict
+  abbrev settled : Told 𝓤 H A verdict
   settled = record {
     row = S.the-row;
     name = S.the-type .name;
@@ -183,7 +192,7 @@ module _ {M : Type 1} (𝓤 : URA M) (H : Heap 𝓤) (A : Atoms 𝓤) (W : Given
     makes = LL.makes S.the-type S′.the-plain 𝓤 H A;
   }
 
-  abbrev pub moved : Told 𝓤 H A granted
+  abbrev moved : Told 𝓤 H A granted
   moved = record {
     row = D.the-row;
     name = D.the-type .name;
@@ -198,3 +207,19 @@ module _ {M : Type 1} (𝓤 : URA M) (H : Heap 𝓤) (A : Atoms 𝓤) (W : Given
     owes = λ f n fs ns. LL.owes D.the-type D′.the-laws (record { flow = f; granted = n }) (fs, (ns, tt));
     makes = LL.makes D.the-type D′.the-plain 𝓤 H A;
   }
+
+  -- ---- the four changes
+  abbrev settling : (P : Plain 𝓤 H A) → (FlowController → P .row .Denot → Settled) → Change 𝓤 H A
+  settling P op = record { arg = P; told = verdict; both = settled; op = op }
+
+  abbrev pub sending : Change 𝓤 H A
+  sending = settling count consumeSend
+
+  abbrev pub crediting : Change 𝓤 H A
+  crediting = settling credit increaseSend
+
+  abbrev pub receiving : Change 𝓤 H A
+  receiving = settling count consumeReceive
+
+  abbrev pub stepping : Change 𝓤 H A
+  stepping = record { arg = conditions; told = granted; both = moved; op = nextWindowUpdate }

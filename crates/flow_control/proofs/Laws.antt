@@ -2,20 +2,18 @@
 use mathlib.Core.Path.{_≡_, refl, sym, _∙_}
 use mathlib.Core.Bool.{Bool, true, false, cond}
 use Prim.Native.Nat.{ℕ, _+_, _-_, _*_, _≤_}
-use lib.Dec.{eqb}
 use native.Mathlib.Omega.{arith}
 use native.Mathlib.Nat.{le-refl}
 use Rattle.frame.specs.Header.{initialWindow}
-use Rattle.frame.specs.declared.header.Credit.{Credit}
-use Rattle.rtt.specs.declared.RoundTrip.{RoundTrip}
-use Rattle.flow_control.specs.Windows.{top, credit, due, paceOf, budget, newMaximum, granted}
+use Rattle.flow_control.specs.Windows.{top, paceOf, budget, newMaximum, granted, unmoved}
 use Rattle.flow_control.specs.Windows.{paced, isDue, nextWindowUpdate, withReceive, settled}
+use Rattle.flow_control.specs.declared.Conditions.{Conditions}
 use Rattle.flow_control.specs.declared.FlowController.{FlowController}
 use Rattle.flow_control.specs.declared.Pace.{Pace}
 use Rattle.flow_control.specs.declared.Pace.the-variants.{Unmeasured, Late, Early}
 use Rattle.flow_control.specs.declared.Update.{Update}
 use Rattle.flow_control.specs.declared.Update.the-variants as update
-use Rattle.flow_control.specs.declared.Stepped.{Stepped}
+use Rattle.flow_control.specs.declared.Moved.{Moved}
 use Rattle.flow_control.specs.declared.Verdict.the-variants.{Done, InvalidWindowUpdate}
 use Rattle.flow_control.specs.declared.Settled.{Settled}
 
@@ -30,38 +28,27 @@ Fits f = (f .«receive_window» ≤ top) × (f .«max_receive_window» ≤ top) 
 -- the bytes that an update grants
 abbrev pub creditOf : Update → ℕ
 creditOf update.NotDue = 0
-creditOf (update.Unmeasured c) = c .0
-creditOf (update.Late c) = c .0
-creditOf (update.Doubled c) = c .0
-creditOf (update.HeldDown c) = c .0
-
-either-credit : (b : Bool) (c : Credit) → creditOf (cond b (update.Doubled c) (update.HeldDown c)) ≡ c .0
-either-credit true c = refl
-either-credit false c = refl
-
-either-sends : (b : Bool) (c : Credit) → cond b (update.Doubled c) (update.HeldDown c) ≡ update.NotDue → ⊥
-either-sends true c e = let z : _≡_ {A = ℕ} 0 1 = cc in omega arith
-either-sends false c e = let z : _≡_ {A = ℕ} 0 1 = cc in omega arith
+creditOf (update.Due why c) = c .0
 
 -- ---- the window step
 
--- from f and the growth figure, with so much of the budget left, to g and the figure after
-pub record Steps (f : FlowController) (unread now growth spare : ℕ) (g : FlowController) (after : ℕ) : Type 0 where
+-- from f to g, and to the growth figure after
+pub record Steps (f : FlowController) (c : Conditions) (g : FlowController) (after : ℕ) : Type 0 where
   -- the maximum never falls
   pub rises : Fits f → f .«max_receive_window» ≤ g .«max_receive_window»
   -- the rise is at most what is left of the budget
-  pub within : g .«max_receive_window» ≤ f .«max_receive_window» + spare
+  pub within : g .«max_receive_window» ≤ f .«max_receive_window» + budget c
   -- the growth figure rises by the difference
-  pub figure : after ≡ growth + (g .«max_receive_window» - f .«max_receive_window»)
-  pub room : Fits f → Room f unread → Room g unread
+  pub figure : after ≡ c .growth + (g .«max_receive_window» - f .«max_receive_window»)
+  pub room : Fits f → Room f (c .unread) → Room g (c .unread)
   pub fits : Fits f → Fits g
   pub send : g .«send_window» ≡ f .«send_window»
   -- the noted time is the old one or the call's
-  pub noted : (k : ℕ) → f .«last_window_update» ≤ k → now ≤ k → g .«last_window_update» ≤ k
+  pub noted : (k : ℕ) → f .«last_window_update» ≤ k → c .time ≤ k → g .«last_window_update» ≤ k
 
-module _ (f : FlowController) (unread now growth spare : ℕ) where
+module _ (f : FlowController) (c : Conditions) where
   -- no step at all
-  pub still : Steps f unread now growth spare f growth
+  pub still : Steps f c f (c .growth)
   still = record {
     rises = λ r. le-refl _;
     within = omega arith;
@@ -72,18 +59,9 @@ module _ (f : FlowController) (unread now growth spare : ℕ) where
     noted = λ k o n. o;
   }
 
-  abbrev new : ℕ
-  new = newMaximum (f .«max_receive_window») spare
-
-  abbrev doubled : Bool
-  doubled = eqb new (2 * f .«max_receive_window»)
-
-  abbrev grant : Credit
-  grant = credit (due new f unread)
-
   grants :
-      (m after : ℕ) → (Fits f → (f .«max_receive_window» ≤ m) × (m ≤ top)) → m ≤ f .«max_receive_window» + spare →
-      after ≡ growth + (m - f .«max_receive_window») → Steps f unread now growth spare (granted f m unread now) after
+      (m after : ℕ) → (Fits f → (f .«max_receive_window» ≤ m) × (m ≤ top)) → m ≤ f .«max_receive_window» + budget c →
+      after ≡ c .growth + (m - f .«max_receive_window») → Steps f c (granted f m c) after
   grants m after h w e = record {
     rises = λ r. h r .0;
     within = w;
@@ -95,48 +73,50 @@ module _ (f : FlowController) (unread now growth spare : ℕ) where
   }
 
   -- the outcome by whether an update is due, and its pace
-  abbrev outcome : Bool → Pace → Stepped
-  outcome b p = cond b (paced p f unread now growth spare) (record { flow = f; growth = growth; update = update.NotDue })
+  abbrev outcome : Bool → Pace → Moved
+  outcome b p = cond b (paced p f c) (unmoved f (c .growth))
 
-  outcomes : (b : Bool) (p : Pace) → Steps f unread now growth spare (outcome b p .flow) (outcome b p .growth)
+  outcomes : (b : Bool) (p : Pace) → Steps f c (outcome b p .flow) (outcome b p .granted .growth)
   outcomes false p = still
   outcomes true Unmeasured = grants _ _ (λ r. (le-refl _, r .1)) (omega arith) (omega arith)
   outcomes true Late = grants _ _ (λ r. (le-refl _, r .1)) (omega arith) (omega arith)
-  outcomes true Early =
-      grants new _ (λ r. (omega arith, omega arith)) (omega arith) refl
+  outcomes true Early = grants (newMaximum (f .«max_receive_window») (budget c)) _ (λ r. (omega arith, omega arith)) (omega arith) refl
 
-  credits : (b : Bool) (p : Pace) → outcome b p .flow .«receive_window» ≡ f .«receive_window» + creditOf (outcome b p .update)
+  credits : (b : Bool) (p : Pace) → outcome b p .flow .«receive_window» ≡ f .«receive_window» + creditOf (outcome b p .granted .update)
   credits false p = omega arith
   credits true Unmeasured = refl
   credits true Late = refl
-  credits true Early = rw (either-credit doubled grant)
+  credits true Early = refl
 
-  silent : (b : Bool) (p : Pace) → outcome b p .update ≡ update.NotDue → outcome b p ≡ outcome false p
+  silent : (b : Bool) (p : Pace) → outcome b p .granted .update ≡ update.NotDue → outcome b p ≡ outcome false p
   silent false p e = refl
   silent true Unmeasured e = cc
   silent true Late e = cc
-  silent true Early e = absurd (either-sends doubled grant e)
+  silent true Early e = cc
 
-module _ (f : FlowController) (unread now : ℕ) (rt : RoundTrip) (limit m growth : ℕ) where
-  abbrev taken : Stepped
-  taken = nextWindowUpdate f unread now rt limit m growth
+  abbrev pace : Pace
+  pace = paceOf (c .«round_trip») (f .«last_window_update») (c .time)
 
-  pub steps : Steps f unread now growth (budget limit m growth) (taken .flow) (taken .growth)
-  steps = outcomes f unread now growth (budget limit m growth) (isDue f unread) (paceOf rt (f .«last_window_update») now)
+  abbrev taken : Moved
+  taken = nextWindowUpdate f c
+
+  pub steps : Steps f c (taken .flow) (taken .granted .growth)
+  steps = outcomes (isDue f (c .unread)) pace
 
   -- the receive window rises by the credit that is granted
-  pub credited : taken .flow .«receive_window» ≡ f .«receive_window» + creditOf (taken .update)
-  credited = credits f unread now growth (budget limit m growth) (isDue f unread) (paceOf rt (f .«last_window_update») now)
+  pub credited : taken .flow .«receive_window» ≡ f .«receive_window» + creditOf (taken .granted .update)
+  credited = credits (isDue f (c .unread)) pace
 
-  pub credit-fits : Fits f → creditOf (taken .update) ≤ top
+  pub credit-fits : Fits f → creditOf (taken .granted .update) ≤ top
   credit-fits h = omega (arith, credited, steps .fits h .0)
 
   -- where no update is sent nothing changes
-  pub unchanged : taken .update ≡ update.NotDue → taken ≡ record { flow = f; growth = growth; update = update.NotDue }
-  unchanged = silent f unread now growth (budget limit m growth) (isDue f unread) (paceOf rt (f .«last_window_update») now)
+  pub unchanged : taken .granted .update ≡ update.NotDue → taken ≡ unmoved f (c .growth)
+  unchanged = silent (isDue f (c .unread)) pace
 
   -- the growth figure stays within the limit less 262,144 for each stream
-  pub within-limit : growth ≤ limit - m * initialWindow → Fits f → taken .growth ≤ limit - m * initialWindow
+  pub within-limit :
+      c .growth ≤ c .limit - c .«max_num_streams» * initialWindow → Fits f → taken .granted .growth ≤ c .limit - c .«max_num_streams» * initialWindow
   within-limit h r = omega (arith, steps .within, steps .figure, steps .rises r)
 
 -- ---- consume and increase

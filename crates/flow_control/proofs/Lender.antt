@@ -11,9 +11,12 @@ use mir.Syntax.{place, copy, rvOpd, addrOf, aggregate, seq, assign, call, return
 use mir.Val.{Val, vptr}
 use base.Logic.{SProp, ent, sep, emp, via, fst∗, id⊢}
 use base.Fml.{GName, Fml, ftrue, flft, flent, fat, fsep}
-use prog.Wp.{Heap, Calls, Loops, WpFn, Tables}
+use prog.Wp.{Heap, Calls, Loops, WpFn, Tables, Closed}
+use prog.Model.{Model}
+use prog.Routine.{Routine, Env}
 use ghost.Atoms.{Atoms, sem}
 use contract.Monad.{fact}
+use contract.Running.{GhostRules, Running, MachineTables, givenOf, tables, tablesOf}
 use types.Kit.{Given, ‵, raw, some, later, _⊛_, _$_, _∵_, !, qed, by, move, keep, drop, use1, use2, use3, split, join, pick, rewrite}
 use types.Kit.{fsplit, fjoin, fpick, fpack, suffices, frame, await, done}
 use types.Run.{look, init, forget, stop, from, load, addr, of-opd, and-then, no-more, assigns, land}
@@ -34,6 +37,7 @@ use denote.Triple.Entry.{onEntry}
 use denote.Triple.Spec.{Meets}
 use denote.Triple.Statement.{Contract, Triple}
 use denote.Triple.Call.{calls-at}
+use denote.Triple.Table.{entered, cited}
 use denote.Triple.Clauses.{Ended, Clauses, ensured, lasts, closing}
 use denote.Triple.Walked.{says, Stays, stay-none, walkOf, AllGo, goes-none, Walks, ends-at, walked, walk-meets}
 use denote.Exit.{yes, Last}
@@ -41,7 +45,7 @@ use Rattle.flow_control.specs.declared.FlowController.{FlowController}
 use Rattle.flow_control.proofs.FlowController as T
 use Rattle.flow_control.proofs.FlowController.Laws as T′
 use Rattle.flow_control.proofs.Changes.{mach, two, Plain, Told, pairTy, record-typed, record-made}
-use Rattle.flow_control.proofs.Changes.{valued, lent, valued-clauses, lent-clauses, Lent}
+use Rattle.flow_control.proofs.Changes.{Change, valued, lent, valued-clauses, lent-clauses, Valued, Lent}
 
 -- the MIR of such a function: by the name of the method, and the types of what is told and of the argument
 abbrev pub lender : Name → Sym → Ty → Ty → Fn
@@ -185,7 +189,32 @@ module _ {M : Type 1} (𝓤 : URA M) (H : Heap 𝓤) (A : Atoms 𝓤) (W : Given
   goes : AllGo 𝓤 H A W 0 (own .signature .params) (own .kept) stayed
   goes = (goes-none 𝓤 H A W 0 (λ _. T.the-row) yes (λ κs y f. refl), (goes-none 𝓤 H A W 0 (λ _. P .row) yes (λ κs y f. P .silent y f), tt))
 
-  pub lender-meets : (𝓣 : Tables 𝓤 H) (callee : Name) → Triple 𝓤 (𝓣 .C callee) Called → Meets 𝓤 H A (own .signature) (WpFn 𝓤 H (𝓣 .C) (𝓣 .Λ) (code callee)) (closing 𝓤 H A own clauses)
+  lender-meets : (𝓣 : Tables 𝓤 H) (callee : Name) → Triple 𝓤 (𝓣 .C callee) Called → Meets 𝓤 H A (own .signature) (WpFn 𝓤 H (𝓣 .C) (𝓣 .Λ) (code callee)) (closing 𝓤 H A own clauses)
   lender-meets 𝓣 callee known =
       walk-meets 𝓤 H A own stayed W goes clauses (WpFn 𝓤 H (𝓣 .C) (𝓣 .Λ) (code callee)) (WpFn-mono 𝓤 H (W .laws) 𝓣 (code callee))
       (walks (𝓣 .C) (𝓣 .Λ) (fmOf 𝓤 H (W .laws) 𝓣) callee known)
+
+-- the same of the routine, by its tables: what they say of its code and of its callee, and that the callee meets its contract
+module _ {M : Type 1} (𝓤 : URA M) (H : Heap 𝓤) (𝓜 : Model 𝓤 H) (𝓖 : GhostRules 𝓤 H) (𝓡 : Running 𝓤 H 𝓜) (change : Given 𝓤 H (𝓖 .A) → Change 𝓤 H (𝓖 .A)) (γ : Env) (name callee : Name) where
+  abbrev W : Given 𝓤 H (𝓖 .A)
+  W = givenOf 𝓤 H 𝓜 𝓖
+
+  abbrev K : Change 𝓤 H (𝓖 .A)
+  K = change W
+
+  abbrev 𝓣 : MachineTables 𝓤 H 𝓜
+  𝓣 = tables 𝓤 H 𝓜 𝓡 γ
+
+  abbrev mine : Contract 𝓤
+  mine = Valued 𝓤 H (𝓖 .A) (K .arg) (K .told) (K .both) (K .op)
+
+  abbrev theirs : Contract 𝓤
+  theirs = Lent 𝓤 H (𝓖 .A) (K .arg) (K .told) (K .both) (K .op)
+
+  pub lender-spec :
+      Closed 𝓤 H (𝓣 .C) (𝓣 .Λ) name (code 𝓤 H (𝓖 .A) W (K .arg) (K .told) (K .both) (K .op) callee)
+      → (r : Routine) → γ callee ≡ r → Triple 𝓤 (𝓡 .run r) theirs → Triple 𝓤 (𝓣 .C name) mine
+  unfolding tablesOf
+  lender-spec closed r is met =
+      entered 𝓤 H mine (𝓣 .C) (𝓣 .Λ) name _ closed
+      (lender-meets 𝓤 H (𝓖 .A) W (K .arg) (K .told) (K .both) (K .op) (tablesOf 𝓤 H 𝓜 𝓣) callee (cited 𝓤 H theirs 𝓜 𝓡 γ callee r is met))

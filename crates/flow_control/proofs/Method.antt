@@ -11,9 +11,12 @@ use mir.Syntax.{place, deref, field, copy, rvOpd, seq, assign, call, return}
 use mir.Val.{Val, vptr}
 use base.Logic.{SProp, ent, emp, via, fst∗, snd∗, exE, id⊢}
 use base.Fml.{GName, Lft, Share, ftrue, flft, fobs, fbor, fat}
-use prog.Wp.{Heap, Calls, Loops, WpFn, Tables}
+use prog.Wp.{Heap, Calls, Loops, WpFn, Tables, Closed}
+use prog.Model.{Model}
+use prog.Routine.{Routine, Env}
 use ghost.Atoms.{Atoms, sem}
 use contract.Monad.{fact}
+use contract.Running.{GhostRules, Running, MachineTables, givenOf, tables, tablesOf}
 use types.Kit.{Given, Item, ⋆, ‵, raw, some, later, _⊛_, _$_, _∵_, !, qed, by, move, keep, drop, use1, split, join, pick, rewrite}
 use types.Kit.{fsplit, fsplit3, fjoin, fjoin3, feqI, suffices, frame, await, done}
 use types.Run.{look, look-raw, init, store-raw, forget, stop, hop, fld, from, load, of-opd, and-then, no-more, assigns, land}
@@ -33,6 +36,7 @@ use denote.Triple.Entry.{onEntry}
 use denote.Triple.Spec.{Meets}
 use denote.Triple.Statement.{Contract, Triple}
 use denote.Triple.Call.{calls-at}
+use denote.Triple.Table.{entered, cited}
 use denote.Triple.Clauses.{Ended, Clauses, ensured, lasts, closing}
 use denote.Triple.Walked.{says, Stays, stay-ref, stay-none, walkOf, AllGo, goes-none, goes-ref, Walks, ends-at, walked, walk-meets}
 use denote.Exit.{yes}
@@ -40,7 +44,7 @@ use Rattle.flow_control.specs.declared.FlowController.{FlowController}
 use Rattle.flow_control.proofs.FlowController as T
 use Rattle.flow_control.proofs.FlowController.Laws as T′
 use Rattle.flow_control.proofs.Changes.{mach, Plain, Told, pairTy, record-typed, record-made}
-use Rattle.flow_control.proofs.Changes.{valued, lent, valued-clauses, lent-clauses, Valued}
+use Rattle.flow_control.proofs.Changes.{Change, valued, lent, valued-clauses, lent-clauses, Valued, Lent}
 
 -- the MIR of such a method: by the name of the function by value, and the types of what is told and of the argument
 abbrev pub method : Name → Sym → Ty → Ty → Fn
@@ -154,7 +158,32 @@ module _ {M : Type 1} (𝓤 : URA M) (H : Heap 𝓤) (A : Atoms 𝓤) (W : Given
   goes : AllGo 𝓤 H A W 1 (own .signature .params) (own .kept) stayed
   goes = (goes-ref 𝓤 H A W 1 0 tt (plain (λ _. T.the-row)), (goes-none 𝓤 H A W 1 (λ _. P .row) yes (λ κs y f. P .silent y f), tt))
 
-  pub method-meets : (𝓣 : Tables 𝓤 H) (callee : Name) → Triple 𝓤 (𝓣 .C callee) Called → Meets 𝓤 H A (own .signature) (WpFn 𝓤 H (𝓣 .C) (𝓣 .Λ) (code callee)) (closing 𝓤 H A own clauses)
+  method-meets : (𝓣 : Tables 𝓤 H) (callee : Name) → Triple 𝓤 (𝓣 .C callee) Called → Meets 𝓤 H A (own .signature) (WpFn 𝓤 H (𝓣 .C) (𝓣 .Λ) (code callee)) (closing 𝓤 H A own clauses)
   method-meets 𝓣 callee known =
       walk-meets 𝓤 H A own stayed W goes clauses (WpFn 𝓤 H (𝓣 .C) (𝓣 .Λ) (code callee)) (WpFn-mono 𝓤 H (W .laws) 𝓣 (code callee))
       (walks (𝓣 .C) (𝓣 .Λ) (fmOf 𝓤 H (W .laws) 𝓣) callee known)
+
+-- the same of the routine, by its tables: what they say of its code and of its callee, and that the callee meets its contract
+module _ {M : Type 1} (𝓤 : URA M) (H : Heap 𝓤) (𝓜 : Model 𝓤 H) (𝓖 : GhostRules 𝓤 H) (𝓡 : Running 𝓤 H 𝓜) (change : Given 𝓤 H (𝓖 .A) → Change 𝓤 H (𝓖 .A)) (γ : Env) (name callee : Name) where
+  abbrev W : Given 𝓤 H (𝓖 .A)
+  W = givenOf 𝓤 H 𝓜 𝓖
+
+  abbrev K : Change 𝓤 H (𝓖 .A)
+  K = change W
+
+  abbrev 𝓣 : MachineTables 𝓤 H 𝓜
+  𝓣 = tables 𝓤 H 𝓜 𝓡 γ
+
+  abbrev mine : Contract 𝓤
+  mine = Lent 𝓤 H (𝓖 .A) (K .arg) (K .told) (K .both) (K .op)
+
+  abbrev theirs : Contract 𝓤
+  theirs = Valued 𝓤 H (𝓖 .A) (K .arg) (K .told) (K .both) (K .op)
+
+  pub method-spec :
+      Closed 𝓤 H (𝓣 .C) (𝓣 .Λ) name (code 𝓤 H (𝓖 .A) W (K .arg) (K .told) (K .both) (K .op) callee)
+      → (r : Routine) → γ callee ≡ r → Triple 𝓤 (𝓡 .run r) theirs → Triple 𝓤 (𝓣 .C name) mine
+  unfolding tablesOf
+  method-spec closed r is met =
+      entered 𝓤 H mine (𝓣 .C) (𝓣 .Λ) name _ closed
+      (method-meets 𝓤 H (𝓖 .A) W (K .arg) (K .told) (K .both) (K .op) (tablesOf 𝓤 H 𝓜 𝓣) callee (cited 𝓤 H theirs 𝓜 𝓡 γ callee r is met))

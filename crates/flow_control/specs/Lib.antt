@@ -1,3 +1,2 @@
 -- Document 01, "Windows and pings": the sentences on windows.
 pub mod Windows
-pub mod Lent

@@ -10,9 +10,11 @@ use Rattle.rtt.specs.declared.RoundTrip.the-variants.{Unknown, Known}
 use Rattle.flow_control.specs.declared.FlowController.{FlowController}
 use Rattle.flow_control.specs.declared.Pace.{Pace}
 use Rattle.flow_control.specs.declared.Pace.the-variants.{Unmeasured, Late, Early}
-use Rattle.flow_control.specs.declared.Update.{Update}
 use Rattle.flow_control.specs.declared.Update.the-variants as update
-use Rattle.flow_control.specs.declared.Stepped.{Stepped}
+use Rattle.flow_control.specs.declared.Reason.{Reason}
+use Rattle.flow_control.specs.declared.Reason.the-variants as reason
+use Rattle.flow_control.specs.declared.Conditions.{Conditions}
+use Rattle.flow_control.specs.declared.Moved.{Moved}
 use Rattle.flow_control.specs.declared.Verdict.{Verdict}
 use Rattle.flow_control.specs.declared.Verdict.the-variants.{Done, InvalidWindowUpdate}
 use Rattle.flow_control.specs.declared.Settled.{Settled}
@@ -46,53 +48,60 @@ paceOf Unknown noted now = Unmeasured
 paceOf (Known t) noted now = cond (ltb (elapsed noted now) (2 * t)) Early Late
 
 -- what is left of the limit beyond 262,144 for each of M streams: "limit - M x 262,144 - growth figure"
-abbrev pub budget : ℕ → ℕ → ℕ → ℕ
-budget limit m growth = limit - m * initialWindow - growth
+abbrev pub budget : Conditions → ℕ
+budget c = c .limit - c .«max_num_streams» * initialWindow - c .growth
 
 -- "new maximum = min(2 x maximum, 2^32-1, maximum + limit - M x 262,144 - growth figure)"
 abbrev pub newMaximum : ℕ → ℕ → ℕ
 newMaximum maximum spare = min (min (2 * maximum) top) (maximum + spare)
 
 -- "Then a WindowUpdate carries due, receive window += due, time noted"
-abbrev pub granted : FlowController → ℕ → ℕ → ℕ → FlowController
-granted f maximum unread now = record {
-  «last_window_update» = now;
-  «receive_window» = f .«receive_window» + due maximum f unread;
+abbrev pub granted : FlowController → ℕ → Conditions → FlowController
+granted f maximum c = record {
+  «last_window_update» = c .time;
+  «receive_window» = f .«receive_window» + due maximum f (c .unread);
   «max_receive_window» = maximum;
   «send_window» = f .«send_window»;
 }
 
--- grown by doubling, or held down by the budget or by 2^32-1, a rise of zero included
-abbrev pub grown : ℕ → ℕ → ℕ → Update
-grown old new n = cond (eqb new (2 * old)) (update.Doubled (credit n)) (update.HeldDown (credit n))
-
--- "the figure rises by the difference, due is taken afresh"
-abbrev pub grow : FlowController → ℕ → ℕ → ℕ → ℕ → Stepped
-grow f unread now growth maximum = record {
-  flow = granted f maximum unread now;
-  growth = growth + (maximum - f .«max_receive_window»);
-  update = grown (f .«max_receive_window») maximum (due maximum f unread);
+-- all that is due against `maximum` granted, with the growth figure after it, and why the maximum is that
+abbrev pub moved : FlowController → ℕ → Conditions → ℕ → Reason → Moved
+moved f maximum c growth why = record {
+  flow = granted f maximum c;
+  granted = record { growth = growth; update = update.Due why (credit (due maximum f (c .unread))) };
 }
 
--- an update with the maximum as it was
-abbrev pub keep : FlowController → ℕ → ℕ → ℕ → Update → Stepped
-keep f unread now growth u = record { flow = granted f (f .«max_receive_window») unread now; growth = growth; update = u }
+-- grown by doubling, or held down by the budget or by 2^32-1, a rise of zero included
+abbrev pub grown : ℕ → ℕ → Reason
+grown old new = cond (eqb new (2 * old)) reason.Doubled reason.HeldDown
 
-abbrev pub paced : Pace → FlowController → ℕ → ℕ → ℕ → ℕ → Stepped
-paced Unmeasured f unread now growth spare = keep f unread now growth (update.Unmeasured (credit (due (f .«max_receive_window») f unread)))
-paced Late f unread now growth spare = keep f unread now growth (update.Late (credit (due (f .«max_receive_window») f unread)))
-paced Early f unread now growth spare = grow f unread now growth (newMaximum (f .«max_receive_window») spare)
+-- "the figure rises by the difference, due is taken afresh"
+abbrev pub grow : FlowController → Conditions → ℕ → Moved
+grow f c maximum = moved f maximum c (c .growth + (maximum - f .«max_receive_window»)) (grown (f .«max_receive_window») maximum)
+
+abbrev pub paced : Pace → FlowController → Conditions → Moved
+paced Unmeasured f c = moved f (f .«max_receive_window») c (c .growth) reason.Unmeasured
+paced Late f c = moved f (f .«max_receive_window») c (c .growth) reason.Late
+paced Early f c = grow f c (newMaximum (f .«max_receive_window») (budget c))
+
+-- a step that grants nothing
+abbrev pub unmoved : FlowController → ℕ → Moved
+unmoved f growth = record { flow = f; granted = record { growth = growth; update = update.NotDue } }
 
 -- "Below half the maximum (rounded down): none."
 abbrev pub isDue : FlowController → ℕ → Bool
 isDue f unread = leb (f .«max_receive_window» / 2) (due (f .«max_receive_window») f unread)
 
 -- the window step: what is granted, the flow state after it, and the growth figure after it
-abbrev pub nextWindowUpdate : FlowController → ℕ → ℕ → RoundTrip → ℕ → ℕ → ℕ → Stepped
-nextWindowUpdate f unread now rt limit m growth =
-    cond (isDue f unread)
-    (paced (paceOf rt (f .«last_window_update») now) f unread now growth (budget limit m growth))
-    (record { flow = f; growth = growth; update = update.NotDue })
+abbrev pub nextWindowUpdate : FlowController → Conditions → Moved
+nextWindowUpdate f c =
+    cond (isDue f (c .unread))
+    (paced (paceOf (c .«round_trip») (f .«last_window_update») (c .time)) f c)
+    (unmoved f (c .growth))
+
+-- "A dropped handle returns its growth once."
+abbrev pub growthReturned : ℕ → FlowController → ℕ
+growthReturned growth f = growth - (f .«max_receive_window» - initialWindow)
 
 -- ---- consume and increase
 

@@ -2,9 +2,9 @@
 pub mod lent;
 
 ghost use mathlib.Core.Path.{_≡_};
-ghost use Prim.Native.Nat.{_+_, _≤_, min};
-ghost use Rattle.flow_control.specs.Windows.{fresh, due, paceOf, budget, newMaximum, granted, keep, grow, nextWindowUpdate};
-ghost use Rattle.flow_control.specs.Windows.{withSend, consumeSend, increaseSend, consumeReceive};
+ghost use Prim.Native.Nat.{_-_, min};
+ghost use Rattle.flow_control.specs.Windows.{fresh, due, paceOf, budget, newMaximum, moved, grown, grow, nextWindowUpdate};
+ghost use Rattle.flow_control.specs.Windows.{growthReturned, consumeSend, increaseSend, consumeReceive};
 use frame::header::Credit;
 use frame::header::DEFAULT_CREDIT;
 use rtt::RoundTrip;
@@ -23,20 +23,40 @@ pub enum Pace {
     Early,
 }
 
+// Why an update that is due leaves the maximum as it does.
+pub enum Reason {
+    Unmeasured,
+    Late,
+    Doubled,
+    HeldDown,
+}
+
 // What the window step did, and the credit that it grants.
 pub enum Update {
     NotDue,
-    Unmeasured(Credit),
-    Late(Credit),
-    Doubled(Credit),
-    HeldDown(Credit),
+    Due(Reason, Credit),
 }
 
-// The flow state and the connection's growth figure after the window step.
-pub struct Stepped {
-    pub flow: FlowController,
+// What the window step depends on beside the flow state.
+pub struct Conditions {
+    pub unread: u32,
+    pub time: u64,
+    pub round_trip: RoundTrip,
+    pub limit: u64,
+    pub max_num_streams: u32,
+    pub growth: u64,
+}
+
+// What the window step grants, and the connection's growth figure after it.
+pub struct Granted {
     pub growth: u64,
     pub update: Update,
+}
+
+// The flow state after the window step, and what is told of it.
+pub struct Moved {
+    pub flow: FlowController,
+    pub granted: Granted,
 }
 
 // Whether a window took a change.
@@ -68,22 +88,25 @@ fn pace_of(round_trip: RoundTrip, noted: u64, now: u64) -> Pace
     }
 }
 
-// What the connection's limit still allows beyond the windows that each stream is sure of.
-fn budget(limit: u64, max_num_streams: u32, growth: u64) -> u64
-    ensures { λ r. ⌜ r ≡ budget limit «max_num_streams» growth ⌝ }
-{
-    let sure = (max_num_streams as u64) * (DEFAULT_CREDIT as u64);
-    if limit < sure {
-        return 0;
-    }
-    let beyond = limit - sure;
-    if beyond < growth { 0 } else { beyond - growth }
-}
-
 fn least(a: u64, b: u64) -> u64
     ensures { λ r. ⌜ r ≡ min a b ⌝ }
 {
     if a < b { a } else { b }
+}
+
+fn saturating_sub(a: u64, b: u64) -> u64
+    ensures { λ r. ⌜ r ≡ a - b ⌝ }
+{
+    if a < b { 0 } else { a - b }
+}
+
+// What the connection's limit still allows beyond the windows that each stream is sure of.
+fn budget(conditions: Conditions) -> u64
+    ensures { λ r. ⌜ r ≡ budget conditions ⌝ }
+{
+    let sure = (conditions.max_num_streams as u64) * (DEFAULT_CREDIT as u64);
+    let beyond = saturating_sub(conditions.limit, sure);
+    saturating_sub(beyond, conditions.growth)
 }
 
 // The maximum doubled, as far as 32 bits and the budget allow.
@@ -91,9 +114,20 @@ fn new_maximum(maximum: u32, spare: u64) -> u32
     ensures { λ r. ⌜ r ≡ newMaximum maximum spare ⌝ }
 {
     let old = maximum as u64;
-    let doubled = least(2 * old, 4294967295);
+    let doubled = least(2 * old, u32::MAX as u64);
     let rise = least(doubled - old, spare);
     (old + rise) as u32
+}
+
+// Whether the maximum was doubled.
+fn grown(old: u32, maximum: u32) -> Reason
+    ensures { λ r. ⌜ r ≡ grown old maximum ⌝ }
+{
+    if (maximum as u64) == 2 * (old as u64) {
+        Reason::Doubled
+    } else {
+        Reason::HeldDown
+    }
 }
 
 impl FlowController {
@@ -110,115 +144,71 @@ impl FlowController {
     }
 
     // The bytes that the remote has used up and we have read, counted against `maximum`.
-    fn due(self, maximum: u32, buffer_len: u32) -> u32
-        ensures { λ r. ⌜ r ≡ due maximum self «buffer_len» ⌝ }
+    fn due(self, maximum: u32, unread: u32) -> u32
+        ensures { λ r. ⌜ r ≡ due maximum self unread ⌝ }
     {
-        let open = self.receive_window;
-        if maximum < open {
-            return 0;
-        }
-        let used = maximum - open;
-        if used < buffer_len {
-            0
-        } else {
-            used - buffer_len
-        }
+        let used = saturating_sub(maximum as u64, self.receive_window as u64);
+        saturating_sub(used, unread as u64) as u32
     }
 
-    // The windows once all that is due against `maximum` is granted.
-    fn granted(self, maximum: u32, buffer_len: u32, now: u64) -> Self
-        ensures { λ r. ⌜ r ≡ granted self maximum «buffer_len» now ⌝ }
+    // The step that grants all that is due against `maximum`.
+    fn moved(self, maximum: u32, conditions: Conditions, growth: u64, reason: Reason) -> Moved
+        ensures { λ r. ⌜ r ≡ moved self maximum conditions growth reason ⌝ }
     {
-        let due = self.due(maximum, buffer_len);
-        FlowController {
-            last_window_update: now,
+        let due = self.due(maximum, conditions.unread);
+        let flow = FlowController {
+            last_window_update: conditions.time,
             receive_window: self.receive_window + due,
             max_receive_window: maximum,
-            send_window: self.send_window,
-        }
-    }
-
-    // The step that leaves the maximum as it was, `update` saying why.
-    fn keep(self, buffer_len: u32, now: u64, growth: u64, update: Update) -> Stepped
-        ensures { λ r. ⌜ r ≡ keep self «buffer_len» now growth update ⌝ }
-    {
-        let flow = self.granted(self.max_receive_window, buffer_len, now);
-        Stepped {
+            ..self
+        };
+        let update = Update::Due(reason, Credit(due));
+        Moved {
             flow,
-            growth,
-            update,
+            granted: Granted { growth, update },
         }
     }
 
     // The step that raises the maximum, and the growth figure by as much.
-    fn grow(self, buffer_len: u32, now: u64, growth: u64, spare: u64) -> Stepped
-        requires { ⌜ growth + spare ≤ 18446744073709551615 ⌝ }
-        ensures { λ r. ⌜ r ≡ grow self «buffer_len» now growth (newMaximum (self .«max_receive_window») spare) ⌝ }
+    fn grow(self, conditions: Conditions) -> Moved
+        ensures { λ r. ⌜ r ≡ grow self conditions (newMaximum (self .«max_receive_window») (budget conditions)) ⌝ }
     {
         let old = self.max_receive_window;
+        let spare = budget(conditions);
         let maximum = new_maximum(old, spare);
-        let flow = self.granted(maximum, buffer_len, now);
-        let due = Credit(self.due(maximum, buffer_len));
-        let growth = growth + ((maximum - old) as u64);
-        if (maximum as u64) == 2 * (old as u64) {
-            return Stepped {
-                flow,
-                growth,
-                update: Update::Doubled(due),
-            };
-        }
-        Stepped {
-            flow,
-            growth,
-            update: Update::HeldDown(due),
-        }
+        let growth = conditions.growth + ((maximum - old) as u64);
+        let reason = grown(old, maximum);
+        self.moved(maximum, conditions, growth, reason)
     }
 
     // The credit due to the remote, and the windows and growth figure after it. Less than half of the maximum is not worth a frame.
-    fn window_updated(
-        self,
-        buffer_len: u32,
-        now: u64,
-        round_trip: RoundTrip,
-        limit: u64,
-        max_num_streams: u32,
-        growth: u64,
-    ) -> Stepped
-        ensures { λ r. ⌜ r ≡ nextWindowUpdate self «buffer_len» now «round_trip» limit «max_num_streams» growth ⌝ }
+    fn window_updated(self, conditions: Conditions) -> Moved
+        ensures { λ r. ⌜ r ≡ nextWindowUpdate self conditions ⌝ }
     {
-        let due = self.due(self.max_receive_window, buffer_len);
-        if due < self.max_receive_window / 2 {
-            return Stepped {
+        let maximum = self.max_receive_window;
+        let growth = conditions.growth;
+        if self.due(maximum, conditions.unread) < maximum / 2 {
+            let update = Update::NotDue;
+            return Moved {
                 flow: self,
-                growth,
-                update: Update::NotDue,
+                granted: Granted { growth, update },
             };
         }
-        let pace = pace_of(round_trip, self.last_window_update, now);
+        let round_trip = conditions.round_trip;
+        let pace = pace_of(round_trip, self.last_window_update, conditions.time);
         match pace {
-            Pace::Unmeasured => {
-                let update = Update::Unmeasured(Credit(due));
-                self.keep(buffer_len, now, growth, update)
-            }
-            Pace::Late => {
-                let update = Update::Late(Credit(due));
-                self.keep(buffer_len, now, growth, update)
-            }
-            Pace::Early => {
-                let spare = budget(limit, max_num_streams, growth);
-                self.grow(buffer_len, now, growth, spare)
-            }
+            Pace::Unmeasured => self.moved(maximum, conditions, growth, Reason::Unmeasured),
+            Pace::Late => self.moved(maximum, conditions, growth, Reason::Late),
+            Pace::Early => self.grow(conditions),
         }
     }
 
-    // The same windows with another send window.
-    fn with_send(self, send_window: u32) -> Self
-        ensures { λ r. ⌜ r ≡ withSend self «send_window» ⌝ }
+    // The connection's growth figure once the stream's handle is dropped.
+    pub fn growth_returned(self, growth: u64) -> u64
+        ensures { λ r. ⌜ r ≡ growthReturned growth self ⌝ }
     {
-        FlowController {
-            send_window,
-            ..self
-        }
+        let grown = saturating_sub(self.max_receive_window as u64, DEFAULT_CREDIT as u64);
+        saturating_sub(growth, grown)
     }
 
     fn send_consumed(self, i: u32) -> Settled
@@ -230,7 +220,10 @@ impl FlowController {
                 verdict: Verdict::InvalidWindowUpdate,
             };
         }
-        let flow = self.with_send(self.send_window - i);
+        let flow = FlowController {
+            send_window: self.send_window - i,
+            ..self
+        };
         Settled {
             flow,
             verdict: Verdict::Done,
@@ -240,13 +233,16 @@ impl FlowController {
     fn send_increased(self, i: Credit) -> Settled
         ensures { λ r. ⌜ r ≡ increaseSend self i ⌝ }
     {
-        if 4294967295 - self.send_window < i.0 {
+        if u32::MAX - self.send_window < i.0 {
             return Settled {
                 flow: self,
                 verdict: Verdict::InvalidWindowUpdate,
             };
         }
-        let flow = self.with_send(self.send_window + i.0);
+        let flow = FlowController {
+            send_window: self.send_window + i.0,
+            ..self
+        };
         Settled {
             flow,
             verdict: Verdict::Done,

@@ -10,13 +10,13 @@ use Rattle.rtt.specs.Pings.{nextPing}
 use Rattle.rtt.specs.declared.Rtt.{Rtt}
 use Rattle.rtt.specs.declared.NextPing.{NextPing}
 use Rattle.rtt.specs.declared.NextPing.the-variants as ask
-use Rattle.flow_control.specs.Windows.{top}
+use Rattle.flow_control.specs.Windows.{top, growthReturned}
 use Rattle.stream.specs.States.{canRead}
 use Rattle.stream.specs.Streams as stream
 use Rattle.stream.specs.declared.Stream.{Stream}
 use Rattle.stream.specs.declared.Updated.{Updated}
-use Rattle.stream.specs.declared.Reading.{Reading}
-use Rattle.stream.specs.declared.Reading.the-variants as reading
+use Rattle.stream.specs.declared.ReadEnd.{ReadEnd}
+use Rattle.stream.specs.declared.ReadEnd.the-variants as reading
 use Rattle.stream.specs.declared.Written.{Written}
 use Rattle.stream.specs.declared.Written.the-variants as written
 use Rattle.rules.specs.Lists.{Place, at, nowhere}
@@ -24,7 +24,7 @@ use Rattle.rules.specs.State.{Entry, Conn, entry, find, withPings, withGrowth, 
 use Rattle.rules.specs.Ending.{gives}
 use Rattle.rules.specs.Calls.{openAt, open-rules, readRest, readWith, windowStep, readRules, writeWith, writeRules, closeRules, dropAt, dropRules, pingOut, tickRules}
 use Rattle.handlers.specs.Perform.{outcomeOf, perform}
-use Rattle.handlers.specs.Locals.{writeAction, onWrite, carrying, onClose, openIn, openWith, openAction, performOpen, isShut, nothingRead, readEnded, onRead, performRead, onDrop, tableAt, freed, growthReturned, pingSent, onTick}
+use Rattle.handlers.specs.Locals.{writeAction, onWrite, carrying, onClose, openIn, openWith, openAction, performOpen, isShut, nothingRead, readEnded, onRead, performRead, onDrop, tableAt, freed, pingSent, onTick}
 use Rattle.handlers.proofs.Rules.{ListedHeld, both, livesAt, find-lives, heardBy}
 
 -- ---- write and close
@@ -76,7 +76,7 @@ waits s t n true e w = eqb-true n 0 e
 waits s t n false e w = cc
 
 module _ (c : Conn) (i : ℕ) (e : Entry) where
-  read-rest : (u : Updated) (n : ℕ) (r : Reading) → ((t : Stream) → r ≡ reading.Wait t → n ≡ 0) →
+  read-rest : (u : Updated) (n : ℕ) (r : ReadEnd) → ((t : Stream) → r ≡ reading.Wait t → n ≡ 0) →
       readRest c i e u n r ≡ performRead c (record { 0 = i }) e (readEnded (record { 0 = i }) u n r)
   unfolding readRest performRead
   read-rest u n (reading.Done s) z = refl
@@ -107,7 +107,7 @@ read-performs c i e asked now = rw (shut (c .ended) (c .config .«read_after_clo
 module _ (c : Conn) (i : ℕ) (e : Entry) where
   -- the connection with the growth of the handle returned
   abbrev pub returned : Conn
-  returned = withGrowth c (growthReturned (c .growth) (e .stream))
+  returned = withGrowth c (growthReturned (c .growth) (e .stream .flow))
 
   drop-at : (p : Place) → livesAt c p → dropAt p returned i ≡ freed i (perform returned [] (onDrop (record { 0 = i }) (tableAt c p)))
   unfolding dropAt freed perform onDrop

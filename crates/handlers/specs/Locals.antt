@@ -1,10 +1,9 @@
 -- The local calls as actions: what the rules of `rules/specs/Calls` do, said of one stream's value and of numbers.
 use mathlib.Core.Bool.{Bool, true, false, cond, not}
 use mathlib.Core.List.{List, []}
-use Prim.Native.Nat.{ℕ, _+_, _-_, min}
+use Prim.Native.Nat.{ℕ, _+_, min}
 use lib.Dec.{ltb, leb}
 use lib.ListN.{take}
-use Rattle.frame.specs.Header.{initialWindow}
 use Rattle.frame.specs.declared.header.StreamId.{StreamId}
 use Rattle.rtt.specs.Pings.{nextPing}
 use Rattle.rtt.specs.declared.Rtt.{Rtt}
@@ -14,8 +13,8 @@ use Rattle.flow_control.specs.Windows.{top}
 use Rattle.stream.specs.Streams as stream
 use Rattle.stream.specs.declared.Stream.{Stream}
 use Rattle.stream.specs.declared.Updated.{Updated}
-use Rattle.stream.specs.declared.Reading.{Reading}
-use Rattle.stream.specs.declared.Reading.the-variants as reading
+use Rattle.stream.specs.declared.ReadEnd.{ReadEnd}
+use Rattle.stream.specs.declared.ReadEnd.the-variants as reading
 use Rattle.stream.specs.declared.Written.{Written}
 use Rattle.stream.specs.declared.Written.the-variants as written
 use Rattle.stream.specs.declared.Sent.{Sent}
@@ -125,7 +124,7 @@ isShut ended readAfterClose = cond ended (not readAfterClose) false
 abbrev pub nothingRead : Slot → Answer
 nothingRead i = slotAnswer i reply.Done (value.Of 0) Nothing
 
-abbrev pub readEnded : Slot → Updated → ℕ → Reading → ReadStep
+abbrev pub readEnded : Slot → Updated → ℕ → ReadEnd → ReadStep
 readEnded i u n (reading.Done s) = record { stream = s; growth = u .growth; count = n; answer = slotAnswer i reply.Done (value.Of n) (u .sent) }
 readEnded i u n (reading.Wait s) = record { stream = s; growth = u .growth; count = n; answer = slotAnswer i reply.Wait value.None (u .sent) }
 
@@ -165,10 +164,6 @@ tableAt c (at i) = known.At (record { 0 = i }) (entry (c .slots) i .stream)
 -- "frees the slot"
 unfoldable pub freed : ℕ → Result → Result
 freed i r = record { outcome = r .outcome; after = withSlot (r .after) i vacant }
-
--- "A dropped handle returns its growth once."
-abbrev pub growthReturned : ℕ → Stream → ℕ
-growthReturned growth s = growth - (s .flow .«max_receive_window» - initialWindow)
 
 -- ---- tick
 

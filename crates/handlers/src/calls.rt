@@ -1,13 +1,10 @@
 // Write, close, drop and tick.
 ghost use mathlib.Core.Path.{_≡_};
-ghost use Prim.Native.Nat.{_-_};
-ghost use Rattle.frame.specs.Header.{initialWindow};
-ghost use Rattle.handlers.specs.Locals.{writeAction, onWrite, onClose, onDrop, growthReturned, pingSent, onTick};
+ghost use Rattle.handlers.specs.Locals.{writeAction, onWrite, onClose, onDrop, pingSent, onTick};
 use crate::Action;
 use crate::Known;
 use crate::PingStep;
 use crate::answers;
-use frame::header::DEFAULT_CREDIT;
 use rtt::NextPing;
 use rtt::Rtt;
 use rules::Reply;
@@ -79,28 +76,6 @@ pub fn on_drop(slot: Slot, known: Known) -> Action
     let wakes = dropped.wakes;
     let answer = answers::done(false, Which::At(slot), Value::None, sent, wakes);
     Action::Store(found, closed, false, answer)
-}
-
-// What the stream's maximum has above the first window.
-fn grown(stream: Stream) -> u32
-    ensures { λ r. ⌜ r ≡ stream .flow .«max_receive_window» - initialWindow ⌝ }
-{
-    let max = stream.flow.max_receive_window;
-    if max < DEFAULT_CREDIT {
-        return 0;
-    }
-    max - DEFAULT_CREDIT
-}
-
-// The growth figure once the handle of the stream is dropped.
-pub fn growth_returned(growth: u64, stream: Stream) -> u64
-    ensures { λ r. ⌜ r ≡ growthReturned growth stream ⌝ }
-{
-    let returned = grown(stream) as u64;
-    if growth < returned {
-        return 0;
-    }
-    growth - returned
 }
 
 fn ping_sent(rtt: Rtt, ping: NextPing) -> PingStep

@@ -8,7 +8,7 @@ use crate::answers;
 use rules::Reply;
 use rules::Slot;
 use rules::Value;
-use stream::Reading;
+use stream::ReadEnd;
 use stream::Sent;
 use stream::Updated;
 
@@ -35,12 +35,12 @@ fn least(asked: usize, unread: u32) -> u32
     }
 }
 
-fn read_ended(slot: Slot, updated: Updated, n: u32, reading: Reading) -> ReadStep
+fn read_ended(slot: Slot, updated: Updated, n: u32, reading: ReadEnd) -> ReadStep
     ensures { λ r. ⌜ r ≡ readEnded slot updated n reading ⌝ }
 {
     let sent = updated.sent;
     match reading {
-        Reading::Done(stream) => {
+        ReadEnd::Done(stream) => {
             let answer = answers::at_slot(slot, Reply::Done, Value::Of(n), sent);
             ReadStep {
                 stream,
@@ -49,7 +49,7 @@ fn read_ended(slot: Slot, updated: Updated, n: u32, reading: Reading) -> ReadSte
                 answer,
             }
         }
-        Reading::Wait(stream) => {
+        ReadEnd::Wait(stream) => {
             let answer = answers::at_slot(slot, Reply::Wait, Value::None, sent);
             ReadStep {
                 stream,

@@ -49,11 +49,10 @@ pub fn elapsed(noted: u64, now: u64) -> u64
 fn later(now: u64, interval: u64) -> u64
     ensures { λ r. ⌜ r ≡ later now interval ⌝ }
 {
-    let left = 18446744073709551615 - now;
-    if interval < left {
+    if interval < u64::MAX - now {
         now + interval
     } else {
-        18446744073709551615
+        u64::MAX
     }
 }
 
@@ -74,7 +73,6 @@ impl Rtt {
         ensures { λ r. ⌜ r ≡ nextPing self now ⌝ }
     {
         let state = self.state;
-        let round_trip = self.round_trip;
         match state {
             RttState::AwaitingPong { sent_at: _, id: _ } => Pinged {
                 rtt: self,
@@ -94,7 +92,7 @@ impl Rtt {
                     rtt: Rtt {
                         state: RttState::AwaitingPong { sent_at: now, id },
                         next_id,
-                        round_trip,
+                        ..self
                     },
                     ping: NextPing::Ping(ping),
                 }
@@ -117,8 +115,8 @@ impl Rtt {
                 let next = later(now, interval);
                 Pong::Accepted(Rtt {
                     state: RttState::Waiting { next },
-                    next_id: self.next_id,
                     round_trip: RoundTrip::Known(rtt),
+                    ..self
                 })
             }
         }

@@ -13,8 +13,8 @@ use Rattle.stream.specs.Streams as stream
 use Rattle.stream.specs.declared.Stream.{Stream}
 use Rattle.stream.specs.declared.Wakes.{Wakes}
 use Rattle.stream.specs.declared.Updated.{Updated}
-use Rattle.stream.specs.declared.Reading.{Reading}
-use Rattle.stream.specs.declared.Reading.the-variants as reading
+use Rattle.stream.specs.declared.ReadEnd.{ReadEnd}
+use Rattle.stream.specs.declared.ReadEnd.the-variants as reading
 use Rattle.stream.specs.declared.Written.{Written}
 use Rattle.stream.specs.declared.Written.the-variants as written
 use Rattle.stream.specs.declared.Sent.{Sent}
@@ -63,7 +63,7 @@ abbrev pub readEntry : Entry → Stream → ℕ → Entry
 readEntry e s n = record { held = e .held; listed = e .listed; stream = s; bytes = drop n (e .bytes) }
 
 -- "if that is 0: done with 0 in RecvClosed or Closed, else wait"
-unfoldable pub readRest : Conn → ℕ → Entry → Updated → ℕ → Reading → Result
+unfoldable pub readRest : Conn → ℕ → Entry → Updated → ℕ → ReadEnd → Result
 readRest c i e u n (reading.Done s) =
     gives
     (onSlot i reply.Done (value.Of n) (u .sent) (take n (e .bytes)))

@@ -7,15 +7,17 @@ use Prim.Native.Nat.{ℕ}
 use lib.Dec.{eqb}
 use Rattle.rtt.specs.declared.RoundTrip.the-variants.{Known}
 use Rattle.flow_control.specs.Windows.{credit, fresh, nextWindowUpdate, withReceive}
-use Rattle.flow_control.specs.declared.Stepped.{Stepped}
+use Rattle.flow_control.specs.declared.Moved.{Moved}
 use Rattle.flow_control.proofs.Laws.{creditOf}
 use Rattle.stream.specs.Streams.{newInbound, onWindowUpdate}
 use Rattle.stream.specs.declared.Received.{Received}
 use Rattle.stream.specs.declared.Received.the-variants.{Taken, ProtocolError}
 
 -- the window step of a new stream, noted at 0, with nothing unread, a round trip of 50 and a limit of 1,048,576 for one stream
-step : ℕ → ℕ → Stepped
-step window now = nextWindowUpdate (withReceive (fresh 262144 0) window) 0 now (Known 50) 1048576 1 0
+step : ℕ → ℕ → Moved
+step window now =
+    nextWindowUpdate (withReceive (fresh 262144 0) window)
+    (record { unread = 0; time = now; «round_trip» = Known 50; limit = 1048576; «max_num_streams» = 1; growth = 0 })
 
 -- the send window of a new inbound stream after a credit; 0 for code 1
 sendAfter : Received → ℕ
@@ -28,8 +30,8 @@ syn c = sendAfter (onWindowUpdate (newInbound (record { 0 = 2 }) 262144 0) (cred
 pub rows : List (ℕ × ℕ)
 rows =
     -- "due 131,072 sent, 131,071 not"
-    (creditOf (step 131072 100 .update), 131072) ∷
-    (creditOf (step 131073 100 .update), 0) ∷
+    (creditOf (step 131072 100 .granted .update), 131072) ∷
+    (creditOf (step 131073 100 .granted .update), 0) ∷
     -- "elapsed equal to 2 x round trip no growth"; one less doubles the maximum
     (step 131072 100 .flow .«max_receive_window», 262144) ∷
     (step 131072 99 .flow .«max_receive_window», 524288) ∷

@@ -9,8 +9,8 @@ use Rattle.frame.specs.Header.{dataHeader, windowUpdateHeader}
 use Rattle.frame.specs.declared.header.Credit.{Credit}
 use Rattle.frame.specs.declared.header.Header.{Header}
 use Rattle.frame.specs.declared.header.StreamId.{StreamId}
-use Rattle.rtt.specs.declared.RoundTrip.{RoundTrip}
-use Rattle.flow_control.specs.Windows.{top, budget, nextWindowUpdate, withSend}
+use Rattle.flow_control.specs.Windows.{top, nextWindowUpdate, withSend}
+use Rattle.flow_control.specs.declared.Conditions.{Conditions}
 use Rattle.flow_control.specs.declared.Update.{Update}
 use Rattle.flow_control.specs.declared.Update.the-variants as update
 use Rattle.flow_control.proofs.Laws.{Steps, creditOf, credited, steps, still}
@@ -84,55 +84,39 @@ flagged-credit owed.Ack id c = refl
 
 frame-credit : (s : Stream) (u : Update) → creditSent (updateFrame s u) ≡ creditOf u
 frame-credit s update.NotDue = refl
-frame-credit s (update.Unmeasured c) = flagged-credit (s .flag) (s .id) c
-frame-credit s (update.Late c) = flagged-credit (s .flag) (s .id) c
-frame-credit s (update.Doubled c) = flagged-credit (s .flag) (s .id) c
-frame-credit s (update.HeldDown c) = flagged-credit (s .flag) (s .id) c
+frame-credit s (update.Due why c) = flagged-credit (s .flag) (s .id) c
 
 -- all but the flag owed and the windows stays, and the laws of the window step hold of the stream's windows
-pub record Kept (s : Stream) (unread now growth spare : ℕ) (u : Updated) : Type 0 where
+pub record Kept (s : Stream) (c : Conditions) (u : Updated) : Type 0 where
   pub same-id : u .stream .id ≡ s .id
   pub same-state : u .stream .state ≡ s .state
   pub same-reader : u .stream .reader ≡ s .reader
   pub same-writer : u .stream .writer ≡ s .writer
-  pub stepped : Steps (s .flow) unread now growth spare (u .stream .flow) (u .growth)
+  pub stepped : Steps (s .flow) c (u .stream .flow) (u .growth)
 
-module _ (s : Stream) (unread now : ℕ) (rt : RoundTrip) (limit m growth : ℕ) where
+module _ (s : Stream) (c : Conditions) where
   abbrev outcome : Bool → Updated
   outcome b =
       cond b
-      (stepTaken s (nextWindowUpdate (s .flow) unread now rt limit m growth))
-      (record { stream = s; growth = growth; step = Skipped; sent = Nothing })
+      (stepTaken s (nextWindowUpdate (s .flow) c))
+      (record { stream = s; growth = c .growth; step = Skipped; sent = Nothing })
 
-  outcomes : (b : Bool) → Kept s unread now growth (budget limit m growth) (outcome b)
-  outcomes true = record {
-    same-id = refl;
-    same-state = refl;
-    same-reader = refl;
-    same-writer = refl;
-    stepped = steps (s .flow) unread now rt limit m growth;
-  }
-  outcomes false = record {
-    same-id = refl;
-    same-state = refl;
-    same-reader = refl;
-    same-writer = refl;
-    stepped = still (s .flow) unread now growth (budget limit m growth);
-  }
+  abbrev taken : Updated
+  taken = sendWindowUpdate s (c .unread) (c .time) (c .«round_trip») (c .limit) (c .«max_num_streams») (c .growth)
 
-  pub updated : Kept s unread now growth (budget limit m growth) (sendWindowUpdate s unread now rt limit m growth)
+  outcomes : (b : Bool) → Kept s c (outcome b)
+  outcomes true = record { same-id = refl; same-state = refl; same-reader = refl; same-writer = refl; stepped = steps (s .flow) c }
+  outcomes false = record { same-id = refl; same-state = refl; same-reader = refl; same-writer = refl; stepped = still (s .flow) c }
+
+  pub updated : Kept s c taken
   updated = outcomes (canRead (s .state))
 
   credits : (b : Bool) → outcome b .stream .flow .«receive_window» ≡ s .flow .«receive_window» + creditSent (outcome b .sent)
-  credits true =
-      let f = frame-credit s (nextWindowUpdate (s .flow) unread now rt limit m growth .update) in
-      omega (arith, f, credited (s .flow) unread now rt limit m growth)
+  credits true = omega (arith, frame-credit s (nextWindowUpdate (s .flow) c .granted .update), credited (s .flow) c)
   credits false = omega arith
 
   -- the receive window rises by what the frame that is sent grants
-  pub updated-credit :
-      sendWindowUpdate s unread now rt limit m growth .stream .flow .«receive_window» ≡
-      s .flow .«receive_window» + creditSent (sendWindowUpdate s unread now rt limit m growth .sent)
+  pub updated-credit : taken .stream .flow .«receive_window» ≡ s .flow .«receive_window» + creditSent (taken .sent)
   updated-credit = credits (canRead (s .state))
 
 -- ---- write

@@ -9,8 +9,7 @@ use Rattle.frame.specs.declared.header.Credit.{Credit}
 use Rattle.frame.specs.declared.header.Len.{Len}
 use Rattle.rtt.specs.declared.RoundTrip.{RoundTrip}
 use Rattle.flow_control.specs.Windows.{top, fresh, nextWindowUpdate, withSend, withReceive}
-use Rattle.flow_control.specs.declared.FlowController.{FlowController}
-use Rattle.flow_control.specs.declared.Stepped.{Stepped}
+use Rattle.flow_control.specs.declared.Moved.{Moved}
 use Rattle.flow_control.specs.declared.Update.{Update}
 use Rattle.flow_control.specs.declared.Update.the-variants as update
 use Rattle.stream.specs.States.{change, canRead, canWrite, acknowledge, finish}
@@ -27,8 +26,8 @@ use Rattle.stream.specs.declared.Received.the-variants.{Taken, ProtocolE
 use Rattle.stream.specs.declared.Woken.{Woken}
 use Rattle.stream.specs.declared.Step.the-variants.{Took, Skipped}
 use Rattle.stream.specs.declared.Updated.{Updated}
-use Rattle.stream.specs.declared.Reading.{Reading}
-use Rattle.stream.specs.declared.Reading.the-variants as reading
+use Rattle.stream.specs.declared.ReadEnd.{ReadEnd}
+use Rattle.stream.specs.declared.ReadEnd.the-variants as reading
 use Rattle.stream.specs.declared.Written.{Written}
 use Rattle.stream.specs.declared.Written.the-variants as written
 use Rattle.stream.specs.declared.Closing.{Closing}
@@ -52,12 +51,6 @@ newOutbound id now = made id owed.Syn initialWindow now
 
 abbrev pub withState : Stream → State → Stream
 withState s t = record { id = s .id; flag = s .flag; state = t; reader = s .reader; writer = s .writer; flow = s .flow }
-
-abbrev pub withFlow : Stream → FlowController → Stream
-withFlow s f = record { id = s .id; flag = s .flag; state = s .state; reader = s .reader; writer = s .writer; flow = f }
-
-abbrev pub withFlag : Stream → Flag → Stream
-withFlag s f = record { id = s .id; flag = f; state = s .state; reader = s .reader; writer = s .writer; flow = s .flow }
 
 abbrev pub withWaits : Stream → Bool → Bool → Stream
 withWaits s r w = record { id = s .id; flag = s .flag; state = s .state; reader = r; writer = w; flow = s .flow }
@@ -129,40 +122,39 @@ owesAck owed.Ack = true
 -- "Then a WindowUpdate carries due": the frame for what the window step granted
 abbrev pub updateFrame : Stream → Update → Sent
 updateFrame s update.NotDue = Nothing
-updateFrame s (update.Unmeasured c) = Frame (addFlag (s .flag) (windowUpdateHeader (s .id) c))
-updateFrame s (update.Late c) = Frame (addFlag (s .flag) (windowUpdateHeader (s .id) c))
-updateFrame s (update.Doubled c) = Frame (addFlag (s .flag) (windowUpdateHeader (s .id) c))
-updateFrame s (update.HeldDown c) = Frame (addFlag (s .flag) (windowUpdateHeader (s .id) c))
+updateFrame s (update.Due why c) = Frame (addFlag (s .flag) (windowUpdateHeader (s .id) c))
 
 -- a flag that was sent is owed no more
 abbrev pub flagAfter : Sent → Flag → Flag
 flagAfter Nothing f = f
 flagAfter (Frame h) f = owed.None
 
-abbrev pub stepTaken : Stream → Stepped → Updated
+abbrev pub stepTaken : Stream → Moved → Updated
 stepTaken s t = record {
   stream = record {
     id = s .id;
-    flag = flagAfter (updateFrame s (t .update)) (s .flag);
+    flag = flagAfter (updateFrame s (t .granted .update)) (s .flag);
     state = s .state;
     reader = s .reader;
     writer = s .writer;
     flow = t .flow;
   };
-  growth = t .growth;
-  step = Took (t .update);
-  sent = updateFrame s (t .update);
+  growth = t .granted .growth;
+  step = Took (t .granted .update);
+  sent = updateFrame s (t .granted .update);
 }
 
 -- "first the window update if the state is Open or SendClosed"
 abbrev pub sendWindowUpdate : Stream → ℕ → ℕ → RoundTrip → ℕ → ℕ → ℕ → Updated
 sendWindowUpdate s unread now rt limit m growth =
     cond (canRead (s .state))
-    (stepTaken s (nextWindowUpdate (s .flow) unread now rt limit m growth))
+    (stepTaken s
+    (nextWindowUpdate (s .flow)
+    (record { unread = unread; time = now; «round_trip» = rt; limit = limit; «max_num_streams» = m; growth = growth })))
     (record { stream = s; growth = growth; step = Skipped; sent = Nothing })
 
 -- "if that is 0: done with 0 in RecvClosed or Closed, else wait"
-abbrev pub readEnd : Stream → ℕ → Reading
+abbrev pub readEnd : Stream → ℕ → ReadEnd
 readEnd s n =
     cond (eqb n 0)
     (cond (canRead (s .state)) (reading.Wait (withWaits s true (s .writer))) (reading.Done s))

@@ -1,14 +1,14 @@
 // One stream by value: its state, the flag that its next frame owes, who waits on it, and its windows.
-mod fields;
 mod outgoing;
 mod states;
 
 ghost use mathlib.Core.Path.{_≡_};
-ghost use Rattle.frame.specs.Header.{windowUpdateHeader};
-ghost use Rattle.stream.specs.Streams.{made, newInbound, newOutbound, onData, onWindowUpdate, reset, acknowledged};
+ghost use Rattle.stream.specs.States.{change};
+ghost use Rattle.stream.specs.Streams.{made, newInbound, newOutbound, withState, onData, onWindowUpdate, reset, acknowledged};
 ghost use Rattle.stream.specs.Streams.{addFlag, updateFrame, stepTaken, sendWindowUpdate, readEnd};
+use flow_control::Conditions;
 use flow_control::FlowController;
-use flow_control::Stepped;
+use flow_control::Moved;
 use flow_control::Update;
 use flow_control::Verdict;
 use flow_control::lent;
@@ -16,7 +16,6 @@ use frame::header::Credit;
 use frame::header::DEFAULT_CREDIT;
 use frame::header::Header;
 use frame::header::StreamId;
-use rtt::RoundTrip;
 
 pub enum State {
     // Open both ways. Of our own stream `acknowledged` says that the remote sent ACK, of an inbound one that we did.
@@ -80,7 +79,8 @@ pub struct Updated {
     pub sent: Sent,
 }
 
-pub enum Reading {
+// How a read ends.
+pub enum ReadEnd {
     Done(Stream),
     Wait(Stream),
 }
@@ -133,6 +133,15 @@ impl Stream {
         Stream::new(id, Flag::Syn, DEFAULT_CREDIT, now)
     }
 
+    // The state that a change to `next` leads to.
+    pub(crate) fn update_state(self, next: State) -> Stream
+        ensures { λ r. ⌜ r ≡ withState self (change (self .state) next) ⌝ }
+    {
+        let current = self.state;
+        let state = current.update(next);
+        Stream { state, ..self }
+    }
+
     // The body is taken from the receive window, and the reader woken.
     pub fn on_data(self, body_len: u32, fin: bool) -> Received
         ensures { λ r. ⌜ r ≡ onData self «body_len» fin ⌝ }
@@ -143,18 +152,20 @@ impl Stream {
             return Received::ProtocolError;
         };
         let flow = settled.flow;
-        let state = self.state;
-        let next = state.finish(fin);
-        let stream = self.with_state(next)
-            .with_waits(false, self.writer)
-            .with_flow(flow);
-        Received::Taken(
-            stream,
-            Wakes {
-                reader: self.reader,
-                writer: false,
-            },
-        )
+        let stream = Stream {
+            reader: false,
+            flow,
+            ..self
+        };
+        let wakes = Wakes {
+            reader: self.reader,
+            writer: false,
+        };
+        if fin {
+            let stream = stream.update_state(State::RecvClosed);
+            return Received::Taken(stream, wakes);
+        }
+        Received::Taken(stream, wakes)
     }
 
     // The credit is added to the send window, and the writer woken; by FIN the reader too.
@@ -167,34 +178,40 @@ impl Stream {
             return Received::ProtocolError;
         };
         let flow = settled.flow;
-        let state = self.state;
-        let next = state.finish(fin);
-        let stream = self.with_state(next).with_flow(flow);
+        let stream = Stream {
+            writer: false,
+            flow,
+            ..self
+        };
         if fin {
-            let stream = stream.with_waits(false, false);
-            return Received::Taken(
-                stream,
-                Wakes {
-                    reader: self.reader,
-                    writer: self.writer,
-                },
-            );
-        }
-        let stream = stream.with_waits(self.reader, false);
-        Received::Taken(
-            stream,
-            Wakes {
+            let stream = stream.update_state(State::RecvClosed);
+            let stream = Stream {
                 reader: false,
+                ..stream
+            };
+            let wakes = Wakes {
+                reader: self.reader,
                 writer: self.writer,
-            },
-        )
+            };
+            return Received::Taken(stream, wakes);
+        }
+        let wakes = Wakes {
+            reader: false,
+            writer: self.writer,
+        };
+        Received::Taken(stream, wakes)
     }
 
     // Closed for good, with reader and writer woken.
     pub fn reset(self) -> Woken
         ensures { λ r. ⌜ r ≡ reset self ⌝ }
     {
-        let stream = self.with_state(State::Closed).with_waits(false, false);
+        let stream = Stream {
+            state: State::Closed,
+            reader: false,
+            writer: false,
+            ..self
+        };
         Woken {
             stream,
             wakes: Wakes {
@@ -204,101 +221,88 @@ impl Stream {
         }
     }
 
-    // The remote's ACK has come.
+    // The remote's ACK has come, or ours has gone out.
     pub fn acknowledge(self) -> Stream
         ensures { λ r. ⌜ r ≡ acknowledged self ⌝ }
     {
-        let state = self.state;
-        let next = state.acknowledge();
-        self.with_state(next)
+        self.update_state(State::Open { acknowledged: true })
     }
 
-    // The frame that grants a credit, with the flag that is owed.
-    fn grant(self, credit: Credit) -> Sent
-        ensures { λ r. ⌜ r ≡ Sent.Frame (addFlag (self .flag) (windowUpdateHeader (self .id) credit)) ⌝ }
+    // The header with the flag that is owed.
+    pub(crate) fn add_flag(self, header: Header) -> Header
+        ensures { λ r. ⌜ r ≡ addFlag (self .flag) header ⌝ }
     {
         let flag = self.flag;
-        let header = Header::window_update(self.id, credit);
-        let header = flag.add_to(header);
-        Sent::Frame(header)
-    }
-
-    // The frame for what the window step granted.
-    fn update_frame(self, update: Update) -> Sent
-        ensures { λ r. ⌜ r ≡ updateFrame self update ⌝ }
-    {
-        match update {
-            Update::NotDue => Sent::Nothing,
-            Update::Unmeasured(credit) => self.grant(credit),
-            Update::Late(credit) => self.grant(credit),
-            Update::Doubled(credit) => self.grant(credit),
-            Update::HeldDown(credit) => self.grant(credit),
+        match flag {
+            Flag::None => header,
+            Flag::Syn => header.syn(),
+            Flag::Ack => header.ack(),
         }
     }
 
-    // The window step's outcome, carried to the stream and its frame.
-    fn step_taken(self, stepped: Stepped) -> Updated
-        ensures { λ r. ⌜ r ≡ stepTaken self stepped ⌝ }
+    // The frame for what the window step granted, with the flag that is owed.
+    fn update_frame(self, update: Update) -> Sent
+        ensures { λ r. ⌜ r ≡ updateFrame self update ⌝ }
     {
-        let flow = stepped.flow;
-        let update = stepped.update;
+        let Update::Due(_, credit) = update else {
+            return Sent::Nothing;
+        };
+        let header = Header::window_update(self.id, credit);
+        let header = self.add_flag(header);
+        Sent::Frame(header)
+    }
+
+    // The window step's outcome, carried to the stream and its frame.
+    fn step_taken(self, moved: Moved) -> Updated
+        ensures { λ r. ⌜ r ≡ stepTaken self moved ⌝ }
+    {
+        let granted = moved.granted;
+        let update = granted.update;
         let sent = self.update_frame(update);
         let owed = self.flag;
         let flag = owed.after(sent);
-        let stream = self.with_flag(flag).with_flow(flow);
+        let flow = moved.flow;
+        let stream = Stream { flag, flow, ..self };
         Updated {
             stream,
-            growth: stepped.growth,
+            growth: granted.growth,
             step: Step::Took(update),
             sent,
         }
     }
 
     // The window step of a read, taken while the remote may still send.
-    pub fn send_window_update(
-        self,
-        unread: u32,
-        now: u64,
-        round_trip: RoundTrip,
-        limit: u64,
-        max_num_streams: u32,
-        growth: u64,
-    ) -> Updated
-        ensures { λ r. ⌜ r ≡ sendWindowUpdate self unread now «round_trip» limit «max_num_streams» growth ⌝ }
+    pub fn send_window_update(self, conditions: Conditions) -> Updated
+        ensures { λ r. ⌜ r ≡ sendWindowUpdate self (conditions .unread) (conditions .time) (conditions .«round_trip») (conditions .limit) (conditions .«max_num_streams») (conditions .growth) ⌝ }
     {
         let state = self.state;
         if !state.can_read() {
             return Updated {
                 stream: self,
-                growth,
+                growth: conditions.growth,
                 step: Step::Skipped,
                 sent: Sent::Nothing,
             };
         }
-        let stepped = lent::after_read(
-            self.flow,
-            unread,
-            now,
-            round_trip,
-            limit,
-            max_num_streams,
-            growth,
-        );
-        self.step_taken(stepped)
+        let moved = lent::after_step(self.flow, conditions);
+        self.step_taken(moved)
     }
 
     // How a read that took so many bytes ends.
-    pub fn read_end(self, taken: u32) -> Reading
+    pub fn read_end(self, taken: u32) -> ReadEnd
         ensures { λ r. ⌜ r ≡ readEnd self taken ⌝ }
     {
         if taken != 0 {
-            return Reading::Done(self);
+            return ReadEnd::Done(self);
         }
         let state = self.state;
         if !state.can_read() {
-            return Reading::Done(self);
+            return ReadEnd::Done(self);
         }
-        let stream = self.with_waits(true, self.writer);
-        Reading::Wait(stream)
+        let stream = Stream {
+            reader: true,
+            ..self
+        };
+        ReadEnd::Wait(stream)
     }
 }

@@ -44,11 +44,15 @@ impl Stream {
             // Never: n is at most the window.
             return Written::Closed;
         };
-        let flow = settled.flow;
-        let flag = self.flag;
         let header = Header::data(self.id, Len(n));
-        let header = flag.add_to(header);
-        let stream = self.with_flag(Flag::None).with_flow(flow);
+        let header = self.add_flag(header);
+        let flow = settled.flow;
+        let stream = Stream {
+            flag: Flag::None,
+            flow,
+            ..self
+        };
+        let flag = self.flag;
         if flag.owes_ack() {
             let stream = stream.acknowledge();
             return Written::Frame(stream, header);
@@ -65,7 +69,10 @@ impl Stream {
             return Written::Closed;
         }
         if self.flow.send_window == 0 {
-            let stream = self.with_waits(self.reader, true);
+            let stream = Stream {
+                writer: true,
+                ..self
+            };
             return Written::Wait(stream);
         }
         let n = self.write_count(given, split);
@@ -79,12 +86,11 @@ impl Stream {
         let flag = self.flag;
         let ack = flag.owes_ack();
         let header = frame::close_stream(self.id, ack);
-        let state = self.state;
-        let next = state.update(State::SendClosed);
-        let stream = self.with_state(next);
+        let stream = self.update_state(State::SendClosed);
         let sent = Sent::Frame(header);
         if ack {
-            let stream = stream.with_flag(Flag::None);
+            let flag = Flag::None;
+            let stream = Stream { flag, ..stream };
             return Closing { stream, sent };
         }
         Closing { stream, sent }

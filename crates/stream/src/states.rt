@@ -1,11 +1,10 @@
 // The states of a stream, and the flag that it owes.
 ghost use mathlib.Core.Path.{_≡_};
-ghost use Rattle.stream.specs.States.{change, canRead, canWrite, isClosed, isPendingAck, acknowledge, finish};
-ghost use Rattle.stream.specs.Streams.{addFlag, owesAck, flagAfter};
+ghost use Rattle.stream.specs.States.{change, canRead, canWrite, isClosed, isPendingAck};
+ghost use Rattle.stream.specs.Streams.{owesAck, flagAfter};
 use crate::Flag;
 use crate::Sent;
 use crate::State;
-use frame::header::Header;
 
 impl State {
     // The state that a change to `next` leads to.
@@ -74,38 +73,9 @@ impl State {
             State::Closed => false,
         }
     }
-
-    // The state once the ACK has come, or has gone out.
-    pub(crate) fn acknowledge(self) -> State
-        ensures { λ r. ⌜ r ≡ acknowledge self ⌝ }
-    {
-        self.update(State::Open { acknowledged: true })
-    }
-
-    // The state after a frame of the remote's, of which `fin` says that it was the last.
-    pub(crate) fn finish(self, fin: bool) -> State
-        ensures { λ r. ⌜ r ≡ finish fin self ⌝ }
-    {
-        if fin {
-            self.update(State::RecvClosed)
-        } else {
-            self
-        }
-    }
 }
 
 impl Flag {
-    // The header with the flag that is owed.
-    pub(crate) fn add_to(self, header: Header) -> Header
-        ensures { λ r. ⌜ r ≡ addFlag self header ⌝ }
-    {
-        match self {
-            Flag::None => header,
-            Flag::Syn => header.syn(),
-            Flag::Ack => header.ack(),
-        }
-    }
-
     pub(crate) fn owes_ack(self) -> bool
         ensures { λ r. ⌜ r ≡ owesAck self ⌝ }
     {

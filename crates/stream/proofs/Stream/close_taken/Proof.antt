@@ -10,37 +10,21 @@ owes-ack-requires c κs = search needs
 close-stream-requires : tie.Need-close-stream-requires
 close-stream-requires c κs = search needs
 
-update-requires : tie.Need-update-requires
-update-requires c κs = search needs
-
-with-state-requires : tie.Need-with-state-requires
-with-state-requires c κs = search needs
-
-with-flag-requires : tie.Need-with-flag-requires
-with-flag-requires c κs = search needs
+update-state-requires : tie.Need-update-state-requires
+update-state-requires c κs = search needs
 
 returns : tie.Need-returns
 returns c =
-    let w = c .before .before in
-    let o = w .before .before .before .owes-ack .ensures in
-    let ack = sym o ∙ c .before .if1 .taken in
-    rw (c .with-flag .ensures, w .with-state .ensures, w .before .update .ensures, w .before .before .close-stream .ensures, o, ack)
+    let w = c .before .before .before in
+    let o = w .before .before .owes-ack .ensures in
+    rw (w .update-state .ensures, w .before .close-stream .ensures, o, sym o ∙ c .before .before .if1 .taken)
 
 returns-2 : tie.Need-returns-2
 returns-2 c =
-    let w = c .before in
-    let o = w .before .before .before .owes-ack .ensures in
-    let none = sym o ∙ c .if1 .left in
-    rw (w .with-state .ensures, w .before .update .ensures, w .before .before .close-stream .ensures, o, none)
+    let o = c .before .before .before .owes-ack .ensures in
+    rw (c .before .update-state .ensures, c .before .before .close-stream .ensures, o, sym o ∙ c .if1 .left)
 
 pub close-taken-spec : {M : Type 1} → statement M
 close-taken-spec =
     tie.close
-    (tie.spec
-    owes-ack-requires
-    close-stream-requires
-    update-requires
-    with-state-requires
-    with-flag-requires
-    returns
-    returns-2)
+    (tie.spec owes-ack-requires close-stream-requires update-state-requires returns returns-2)

@@ -1,7 +1,6 @@
 -- `stream::Stream::read_end` meets its contract. Assumes nothing.
-use borrow.Author.Tests.{not-true, not-false}
-use borrow.Author.Tests.{eq-eqb, ne-eqb}
 use mathlib.Core.Path.{sym, _∙_}
+use borrow.Author.Tests.{not-true, not-false, eq-eqb, ne-eqb}
 use borrow.Author.Needs.{needs}
 use Rattle.stream.proofs.Stream.read_end.Statement.{statement}
 use Rattle.stream.proofs.Stream.read_end.Tie as tie
@@ -15,18 +14,12 @@ can-read-requires c κs = search needs
 returns-2 : tie.Need-returns-2
 returns-2 c =
     let can = c .before .can-read in
-    let shut = sym (can .ensures) ∙ not-true (can .result) (c .if2 .taken) in
-    rw (eq-eqb _ _ (c .before .before .if1 .left), shut)
-
-with-waits-requires : tie.Need-with-waits-requires
-with-waits-requires c κs = search needs
+    rw (eq-eqb _ _ (c .before .before .if1 .left), sym (can .ensures) ∙ not-true (can .result) (c .if2 .taken))
 
 returns-3 : tie.Need-returns-3
 returns-3 c =
-    let can = c .before .before .can-read in
-    let free = sym (can .ensures) ∙ not-false (can .result) (c .before .if2 .left) in
-    rw (c .with-waits .ensures, eq-eqb _ _ (c .before .before .before .if1 .left), free)
+    let can = c .before .before .before .can-read in
+    rw (eq-eqb _ _ (c .before .before .before .before .if1 .left), sym (can .ensures) ∙ not-false (can .result) (c .before .before .if2 .left))
 
 pub read-end-spec : {M : Type 1} → statement M
-read-end-spec =
-    tie.close (tie.spec returns can-read-requires returns-2 with-waits-requires returns-3)
+read-end-spec = tie.close (tie.spec returns can-read-requires returns-2 returns-3)

@@ -1,7 +1,6 @@
 -- `stream::Stream::write` meets its contract. Assumes nothing.
-use borrow.Author.Tests.{not-true, not-false}
-use borrow.Author.Tests.{eq-eqb, ne-eqb}
 use mathlib.Core.Path.{sym, _∙_}
+use borrow.Author.Tests.{not-true, not-false, eq-eqb, ne-eqb}
 use borrow.Author.Needs.{needs}
 use Rattle.stream.proofs.Stream.write.Statement.{statement}
 use Rattle.stream.proofs.Stream.write.Tie as tie
@@ -12,17 +11,13 @@ can-write-requires c κs = search needs
 returns : tie.Need-returns
 returns c =
     let can = c .before .can-write in
-    let shut = sym (can .ensures) ∙ not-true (can .result) (c .if1 .taken) in
-    rw shut
-
-with-waits-requires : tie.Need-with-waits-requires
-with-waits-requires c κs = search needs
+    rw (sym (can .ensures) ∙ not-true (can .result) (c .if1 .taken))
 
 returns-2 : tie.Need-returns-2
 returns-2 c =
-    let can = c .before .before .before .before .can-write in
-    let free = sym (can .ensures) ∙ not-false (can .result) (c .before .before .before .if1 .left) in
-    rw (c .with-waits .ensures, free, eq-eqb _ _ (c .before .if2 .taken))
+    let can = c .before .before .before .before .before .can-write in
+    let free = sym (can .ensures) ∙ not-false (can .result) (c .before .before .before .before .if1 .left) in
+    rw (free, eq-eqb _ _ (c .before .before .if2 .taken))
 
 write-count-requires : tie.Need-write-count-requires
 write-count-requires c κs = search needs
@@ -42,7 +37,6 @@ write-spec =
     (tie.spec
     can-write-requires
     returns
-    with-waits-requires
     returns-2
     write-count-requires
     write-taken-requires

@@ -2,9 +2,9 @@
 use lib.Dec.{leb}
 use borrow.Author.Tests.{leb-false}
 use mathlib.Core.Path.{sym, _∙_}
+use Rattle.flow_control.proofs.Laws.{done, refused}
 use borrow.Author.Needs.{needs}
 use native.Mathlib.Omega.{arith}
-use Rattle.flow_control.proofs.Laws.{done, refused}
 use Rattle.stream.proofs.Stream.write_taken.Statement.{statement}
 use Rattle.stream.proofs.Stream.write_taken.Tie as tie
 
@@ -28,14 +28,8 @@ returns c =
 data-requires : tie.Need-data-requires
 data-requires c κs = search needs
 
-add-to-requires : tie.Need-add-to-requires
-add-to-requires c κs = search needs
-
-with-flag-requires : tie.Need-with-flag-requires
-with-flag-requires c κs = search needs
-
-with-flow-requires : tie.Need-with-flow-requires
-with-flow-requires c κs = search needs
+add-flag-requires : tie.Need-add-flag-requires
+add-flag-requires c κs = search needs
 
 owes-ack-requires : tie.Need-owes-ack-requires
 owes-ack-requires c κs = search needs
@@ -45,26 +39,21 @@ acknowledge-requires c κs = search needs
 
 returns-2 : tie.Need-returns-2
 returns-2 c =
-    let w = c .before .before .before in
-    let h = w .before .before in
-    let p = h .before .before .before in
+    let o = c .before .before in
+    let h = o .before .before .before in
+    let p = h .before .before in
     let a = p .before .before .before .args in
-    let fits = leb (a .n) (a .self .flow .«send_window») in
-    let d = done fits _ _ _ (p .before .before .after-send .ensures) (p .enum-told .given .1) in
-    let ack = sym (c .before .before .owes-ack .ensures) ∙ c .before .if1 .taken in
-    let stream = w .before .with-flag .ensures in
-    rw (c .acknowledge .ensures, w .with-flow .ensures, stream, h .add-to .ensures, h .before .«data» .ensures, d .1, ack)
+    let d = done (leb (a .n) (a .self .flow .«send_window»)) _ _ _ (p .before .before .after-send .ensures) (p .enum-told .given .1) in
+    rw (c .acknowledge .ensures, h .add-flag .ensures, h .before .«data» .ensures, d .1, sym (o .owes-ack .ensures) ∙ c .before .if1 .taken)
 
 returns-3 : tie.Need-returns-3
 returns-3 c =
-    let w = c .before .before in
-    let h = w .before .before in
-    let p = h .before .before .before in
+    let o = c .before in
+    let h = o .before .before .before in
+    let p = h .before .before in
     let a = p .before .before .before .args in
-    let fits = leb (a .n) (a .self .flow .«send_window») in
-    let d = done fits _ _ _ (p .before .before .after-send .ensures) (p .enum-told .given .1) in
-    let none = sym (c .before .owes-ack .ensures) ∙ c .if1 .left in
-    rw (w .with-flow .ensures, w .before .with-flag .ensures, h .add-to .ensures, h .before .«data» .ensures, d .1, none)
+    let d = done (leb (a .n) (a .self .flow .«send_window»)) _ _ _ (p .before .before .after-send .ensures) (p .enum-told .given .1) in
+    rw (h .add-flag .ensures, h .before .«data» .ensures, d .1, sym (o .owes-ack .ensures) ∙ c .if1 .left)
 
 pub write-taken-spec : {M : Type 1} → statement M
 write-taken-spec =
@@ -75,9 +64,7 @@ write-taken-spec =
     enum-told-2
     returns
     data-requires
-    add-to-requires
-    with-flag-requires
-    with-flow-requires
+    add-flag-requires
     owes-ack-requires
     acknowledge-requires
     returns-2

@@ -1,7 +1,7 @@
--- `stream::Flag::add_to` meets its contract. Assumes nothing.
+-- `stream::Stream::add_flag` meets its contract. Assumes nothing.
 use borrow.Author.Needs.{needs}
-use Rattle.stream.proofs.Flag.add_to.Statement.{statement}
-use Rattle.stream.proofs.Flag.add_to.Tie as tie
+use Rattle.stream.proofs.Stream.add_flag.Statement.{statement}
+use Rattle.stream.proofs.Stream.add_flag.Tie as tie
 
 enum-told : tie.Need-enum-told
 enum-told c = search needs
@@ -27,8 +27,8 @@ returns-2 c = rw (c .before .enum-told2 .given .1) (c .syn .ensures)
 returns-3 : tie.Need-returns-3
 returns-3 c = rw (c .before .enum-told3 .given .1) (c .ack .ensures)
 
-pub add-to-spec : {M : Type 1} → statement M
-add-to-spec =
+pub add-flag-spec : {M : Type 1} → statement M
+add-flag-spec =
     tie.close
     (tie.spec
     enum-told
