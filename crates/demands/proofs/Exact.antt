@@ -22,7 +22,7 @@ use Rattle.rtt.specs.declared.Pong.{Pong}
 use Rattle.rtt.specs.declared.Pong.the-variants.{Accepted, Unexpected}
 use Rattle.flow_control.specs.Windows.{top}
 use Rattle.stream.specs.declared.Stream.{Stream}
-use Rattle.stream.specs.declared.Wakes.{Wakes}
+use Rattle.stream.specs.declared.StreamWakes.{StreamWakes}
 use Rattle.stream.specs.declared.Received.the-variants.{Taken, ProtocolError}
 use Rattle.rules.specs.declared.Reply.{Reply}
 use Rattle.rules.specs.declared.Reply.the-variants as reply
@@ -118,7 +118,7 @@ module _ (id : StreamId) (a : Acked) (opening over : Bool) where
   no-room o l = record { limits = eight-is (λ x. l (x .0) (x .1)) o; same = λ e i. refl; opened = λ e s n. true-not-false o n }
 
   -- a stream in the table, which takes the frame where b says so
-  takes : (i : ℕ) → Acks a id (at i) → (h : Header) (body : List ℕ) (b : Bool) → opening ≡ false → over ≡ and b (ltb (room (a .conn)) (length body)) → (s : Stream) (w : Wakes) →
+  takes : (i : ℕ) → Acks a id (at i) → (h : Header) (body : List ℕ) (b : Bool) → opening ≡ false → over ≡ and b (ltb (room (a .conn)) (length body)) → (s : Stream) (w : StreamWakes) →
       Ok (takeAt i a h body (cond b (Taken s w) ProtocolError))
   unfolding takeAt
   takes i k h body false shut e s w = away (at i) k shut e protocolError

@@ -15,7 +15,7 @@ use Rattle.frame.specs.declared.header.StreamId.{StreamId}
 use Rattle.frame.specs.declared.header.Tag.{Tag}
 use Rattle.frame.specs.declared.header.Decoded.the-variants as found
 use Rattle.stream.specs.declared.Stream.{Stream}
-use Rattle.stream.specs.declared.Wakes.{Wakes}
+use Rattle.stream.specs.declared.StreamWakes.{StreamWakes}
 use Rattle.stream.specs.declared.Received.the-variants.{Taken}
 use Rattle.stream.specs.declared.Sent.the-variants.{Nothing}
 use Rattle.rules.specs.declared.Value.the-variants as value
@@ -99,7 +99,7 @@ known c m now i head body t f time l P N R e does n =
 -- what is taken stands in the slot, where there is room for the body
 pub stores :
     (h : Header) (body : List ℕ) (i : ℕ) (a : Acked) → Acks a (h .«stream_id») (at i) → length body ≤ room (a .before) →
-    (P : Entry → Outcome → Entry → Type 0) (s : Stream) (w : Wakes) →
+    (P : Entry → Outcome → Entry → Type 0) (s : Stream) (w : StreamWakes) →
     P (entry (a .before .slots) i) (answer a (whose w i) value.None Nothing w) (takenEntry (entry (a .conn .slots) i) s (contains (h .flags) fin) body) →
     Does P (a .before) i (takeAt i a h body (Taken s w))
 unfolding takeAt

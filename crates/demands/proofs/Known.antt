@@ -22,7 +22,7 @@ use Rattle.stream.specs.Streams.{dataTaken, updateTaken}
 use Rattle.stream.specs.declared.State.{State}
 use Rattle.stream.specs.declared.State.the-variants.{Open, SendClosed, RecvClosed, Closed}
 use Rattle.stream.specs.declared.Stream.{Stream}
-use Rattle.stream.specs.declared.Wakes.{Wakes}
+use Rattle.stream.specs.declared.StreamWakes.{StreamWakes}
 use Rattle.stream.specs.declared.Received.the-variants.{Taken, ProtocolError}
 use Rattle.rules.specs.declared.Reply.the-variants as reply
 use Rattle.rules.specs.declared.Which.{Which}
@@ -138,7 +138,7 @@ module _ (h : Header) (body : List ℕ) (a : Acked) where
     }
 
     takes :
-        (t : Tag) (w : Wakes) → Takes →
+        (t : Tag) (w : StreamWakes) → Takes →
         ((j : ℕ) → put i (old .bytes ++ more) (bytesOf (a .conn .slots)) j ≡ left (brought t h body (at i)) (bytesOf (a .before .slots)) j) →
         Ok (at i) t (takeAt i a h more (Taken s w))
     unfolding takeAt
@@ -151,7 +151,7 @@ module _ (h : Header) (body : List ℕ) (a : Acked) where
         (set-beside i taken k))
 
   -- an answer to a frame that a stream takes or that breaks the protocol
-  answers : (i : ℕ) → Acks a (h .«stream_id») (at i) → (t : Tag) (more : List ℕ) (b : Bool) (s : Stream) (w : Wakes) → (b ≡ true → Ok (at i) t (takeAt i a h more (Taken s w))) → Ok (at i) t (takeAt i a h more (cond b (Taken s w) ProtocolError))
+  answers : (i : ℕ) → Acks a (h .«stream_id») (at i) → (t : Tag) (more : List ℕ) (b : Bool) (s : Stream) (w : StreamWakes) → (b ≡ true → Ok (at i) t (takeAt i a h more (Taken s w))) → Ok (at i) t (takeAt i a h more (cond b (Taken s w) ProtocolError))
   unfolding takeAt
   answers i k t more true s w f = f refl
   answers i k t more false s w f = away (at i) k t protocolError

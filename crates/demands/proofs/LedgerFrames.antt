@@ -19,7 +19,7 @@ use Rattle.flow_control.specs.Windows.{top}
 use Rattle.flow_control.specs.declared.FlowController.{FlowController}
 use Rattle.stream.specs.Streams.{dataTaken, updateTaken, newInbound}
 use Rattle.stream.specs.declared.Stream.{Stream}
-use Rattle.stream.specs.declared.Wakes.{Wakes}
+use Rattle.stream.specs.declared.StreamWakes.{StreamWakes}
 use Rattle.stream.specs.declared.Received.the-variants.{Taken, ProtocolError}
 use Rattle.rules.specs.declared.Which.{Which}
 use Rattle.rules.specs.declared.Which.the-variants as which
@@ -87,7 +87,7 @@ module _ (h : Header) (body : List ℕ) (b : ℕ → Account) where
         (λ r. still)
 
     -- a known stream whose windows balance with the frame
-    takes : contains (h .flags) rst ≡ false → (i : ℕ) → Acks a (h .«stream_id») (at i) → (more : List ℕ) (t : Bool) (s : Stream) (w : Wakes) → (t ≡ true → Balanced (cameIn h body (b i)) (s .flow)) →
+    takes : contains (h .flags) rst ≡ false → (i : ℕ) → Acks a (h .«stream_id») (at i) → (more : List ℕ) (t : Bool) (s : Stream) (w : StreamWakes) → (t ≡ true → Balanced (cameIn h body (b i)) (s .flow)) →
         Ok (at i) (takeAt i a h more (cond t (Taken s w) ProtocolError))
     unfolding takeAt
     takes n i k more true s w q =

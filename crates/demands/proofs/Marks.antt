@@ -17,7 +17,7 @@ use Rattle.rtt.specs.declared.Pong.the-variants.{Accepted, Unexpected}
 use Rattle.flow_control.specs.Windows.{top}
 use Rattle.stream.specs.Streams as stream
 use Rattle.stream.specs.declared.Stream.{Stream}
-use Rattle.stream.specs.declared.Wakes.{Wakes}
+use Rattle.stream.specs.declared.StreamWakes.{StreamWakes}
 use Rattle.stream.specs.declared.Received.the-variants.{Taken, ProtocolError}
 use Rattle.stream.specs.declared.Sent.{Sent}
 use Rattle.rules.specs.declared.Reply.{Reply}
@@ -143,7 +143,7 @@ opened c h nowhere = split Opened (contains (h .flags) ack) (λ e. clear-off (c 
 opened c h (at i) = split Opened (contains (h .flags) ack) (λ e. clear-off (c .openWait)) (λ e. clear-kept (c .openWait))
 
 tells-whose : (reader writer : Bool) (i : ℕ) →
-    let w : Wakes = record { reader = reader; writer = writer } in
+    let w : StreamWakes = record { reader = reader; writer = writer } in
     (reader ≡ true → whose w i ≡ which.At (record { 0 = i })) × (writer ≡ true → whose w i ≡ which.At (record { 0 = i }))
 tells-whose true writer i = ((λ e. refl), (λ e. refl))
 tells-whose false true i = ((λ e. refl), (λ e. refl))
@@ -170,7 +170,7 @@ module _ (h : Header) (a : Acked) (o : Opened a) where
   answers place k q s v n = record { all = refl; same = k .live ∙ sym (k .alive); opener = o; here = plain place k q s v n; kept = λ j m. absurd m }
 
   -- a stream in the table that changes
-  wakes : (i : ℕ) → Acks a (h .«stream_id») (at i) → (w : Wakes) (x : Entry) → Marks (w .reader) (w .writer) (entry (a .conn .slots) i .stream) (x .stream) → (v : Value) (n : Sent) →
+  wakes : (i : ℕ) → Acks a (h .«stream_id») (at i) → (w : StreamWakes) (x : Entry) → Marks (w .reader) (w .writer) (entry (a .conn .slots) i .stream) (x .stream) → (v : Value) (n : Sent) →
       Ok (at i) (gives (answer a (whose w i) v n w) (withSlot (a .conn) i x))
   wakes i k w x m v n = record {
     all = refl;
@@ -216,7 +216,7 @@ module _ (h : Header) (a : Acked) (o : Opened a) where
 
   -- ---- a known stream
 
-  takes : (i : ℕ) → Acks a (h .«stream_id») (at i) → (body : List ℕ) (b : Bool) (s : Stream) (w : Wakes) → Marks (w .reader) (w .writer) (entry (a .conn .slots) i .stream) s →
+  takes : (i : ℕ) → Acks a (h .«stream_id») (at i) → (body : List ℕ) (b : Bool) (s : Stream) (w : StreamWakes) → Marks (w .reader) (w .writer) (entry (a .conn .slots) i .stream) s →
       Ok (at i) (takeAt i a h body (cond b (Taken s w) ProtocolError))
   unfolding takeAt
   takes i k body false s w m = answers (at i) k _ _ _ _

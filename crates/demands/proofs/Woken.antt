@@ -17,7 +17,7 @@ use Rattle.rtt.specs.declared.Pong.the-variants.{Accepted, Unexpected}
 use Rattle.flow_control.specs.Windows.{top}
 use Rattle.stream.specs.Streams as stream
 use Rattle.stream.specs.declared.Stream.{Stream}
-use Rattle.stream.specs.declared.Wakes.{Wakes}
+use Rattle.stream.specs.declared.StreamWakes.{StreamWakes}
 use Rattle.stream.specs.declared.Received.the-variants.{Taken, ProtocolError}
 use Rattle.stream.specs.declared.Sent.the-variants.{Nothing}
 use Rattle.rules.specs.declared.Reply.{Reply}
@@ -146,7 +146,7 @@ module _ (h : Header) (a : Acked) (reader writer : Bool) where
   unknown o d p n u e w = record { prompt = rw p; next = n; unset = u; mark = inr e; opener = λ l. (e, w); woken = λ i q r. not-at i q; unwoken = λ f. absurd (f p) }
 
   -- a stream in the table that changes
-  changes : (i : ℕ) → Acks a (h .«stream_id») (at i) → (w : Wakes) (x : Entry) → Woken reader writer (entry (a .conn .slots) i .stream) (x .stream) (w .reader) (w .writer) →
+  changes : (i : ℕ) → Acks a (h .«stream_id») (at i) → (w : StreamWakes) (x : Entry) → Woken reader writer (entry (a .conn .slots) i .stream) (x .stream) (w .reader) (w .writer) →
       Fewer (entry (a .conn .slots) i .stream) (x .stream) → Ok (at i) (gives (answer a (whose w i) value.None Nothing w) (withSlot (a .conn) i x))
   changes i k w x m f = record {
     prompt = refl;
@@ -193,7 +193,7 @@ module _ (h : Header) (a : Acked) (reader writer : Bool) where
       (λ m. split (Ok nowhere) b (λ e. away nowhere n _) (λ e. makes n s q body)))
       (λ r. away nowhere n _)
 
-  takes : (i : ℕ) → Acks a (h .«stream_id») (at i) → (body : List ℕ) (b : Bool) (s : Stream) (w : Wakes) → Woken reader writer (entry (a .conn .slots) i .stream) s (w .reader) (w .writer) →
+  takes : (i : ℕ) → Acks a (h .«stream_id») (at i) → (body : List ℕ) (b : Bool) (s : Stream) (w : StreamWakes) → Woken reader writer (entry (a .conn .slots) i .stream) s (w .reader) (w .writer) →
       Fewer (entry (a .conn .slots) i .stream) s → Ok (at i) (takeAt i a h body (cond b (Taken s w) ProtocolError))
   unfolding takeAt
   takes i k body false s w m f = away (at i) (same h a k) protocolError

@@ -18,7 +18,7 @@ use Rattle.rtt.specs.declared.Pong.the-variants.{Accepted, Unexpected}
 use Rattle.flow_control.specs.Windows.{top}
 use Rattle.stream.specs.Streams.{newInbound, dataTaken, onData, onWindowUpdate, acknowledged}
 use Rattle.stream.specs.declared.Stream.{Stream}
-use Rattle.stream.specs.declared.Wakes.{Wakes}
+use Rattle.stream.specs.declared.StreamWakes.{StreamWakes}
 use Rattle.stream.specs.declared.Received.{Received}
 use Rattle.stream.specs.declared.Received.the-variants.{Taken, ProtocolError}
 use Rattle.rules.specs.Lists.{Place, at, nowhere}
@@ -108,7 +108,7 @@ module _ (c : Conn) (woke : Bool) (h : Header) (body : List ℕ) where
   make-at nowhere s n e = refl
   make-at (at j) s n e = rw e (both does (ltb (room c) n) refl refl)
 
-  makes : (b : Bool) (s : Stream) (w : Wakes) (n : ℕ) → length body ≡ n
+  makes : (b : Bool) (s : Stream) (w : StreamWakes) (n : ℕ) → length body ≡ n
       → cond (not b) (rules.goAway (stepped c woke known.Nowhere) protocolError) (make (stepped c woke known.Nowhere) s body)
       ≡ does (made (room c) woke (free c) n (cond b (Taken s w) ProtocolError))
   unfolding make perform

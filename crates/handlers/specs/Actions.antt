@@ -13,7 +13,7 @@ use Rattle.rtt.specs.declared.Pong.the-variants.{Accepted, Unexpected}
 use Rattle.stream.specs.States.{isClosed}
 use Rattle.stream.specs.Streams.{newInbound, onData, onWindowUpdate, reset, acknowledged}
 use Rattle.stream.specs.declared.Stream.{Stream}
-use Rattle.stream.specs.declared.Wakes.{Wakes}
+use Rattle.stream.specs.declared.StreamWakes.{StreamWakes}
 use Rattle.stream.specs.declared.Received.{Received}
 use Rattle.stream.specs.declared.Received.the-variants.{Taken, ProtocolError}
 use Rattle.stream.specs.declared.Sent.{Sent}
@@ -37,17 +37,17 @@ use Rattle.handlers.specs.declared.Limits.{Limits}
 
 -- ---- answers; `woke` says whether the ACK step woke an open
 
-abbrev pub woken : Bool → Wakes → Woke
+abbrev pub woken : Bool → StreamWakes → Woke
 woken woke w = record { reader = w .reader; writer = w .writer; opener = woke; all = false }
 
-abbrev pub done : Bool → Which → Value → Sent → Wakes → Answer
+abbrev pub done : Bool → Which → Value → Sent → StreamWakes → Answer
 done woke slot v h w = record { reply = reply.Done; slot = slot; value = v; sent = h; wakes = woken woke w }
 
 abbrev pub noAction : Bool → Answer
 noAction woke = done woke which.None value.None Nothing quiet
 
 -- the answer of a frame that a known stream takes
-abbrev pub told : Bool → Slot → Wakes → Answer
+abbrev pub told : Bool → Slot → StreamWakes → Answer
 told woke i w = done woke (whose w (i .0)) value.None Nothing w
 
 abbrev pub goAway : Bool → Header → Answer

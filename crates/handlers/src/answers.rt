@@ -12,9 +12,9 @@ use rules::Value;
 use rules::Which;
 use rules::Woke;
 use stream::Sent;
-use stream::Wakes;
+use stream::StreamWakes;
 
-pub(crate) fn done(woke: bool, slot: Which, value: Value, sent: Sent, wakes: Wakes) -> Answer
+pub(crate) fn done(woke: bool, slot: Which, value: Value, sent: Sent, wakes: StreamWakes) -> Answer
     ensures { λ r. ⌜ r ≡ done woke slot value sent wakes ⌝ }
 {
     Answer {
@@ -34,7 +34,7 @@ pub(crate) fn done(woke: bool, slot: Which, value: Value, sent: Sent, wakes: Wak
 pub(crate) fn no_action(woke: bool) -> Answer
     ensures { λ r. ⌜ r ≡ noAction woke ⌝ }
 {
-    let quiet = Wakes {
+    let quiet = StreamWakes {
         reader: false,
         writer: false,
     };
@@ -42,7 +42,7 @@ pub(crate) fn no_action(woke: bool) -> Answer
 }
 
 // The slot of a stream that is woken.
-fn whose(wakes: Wakes, slot: Slot) -> Which
+fn whose(wakes: StreamWakes, slot: Slot) -> Which
     ensures { λ r. ⌜ r ≡ whose wakes (slot .0) ⌝ }
 {
     if wakes.reader {
@@ -55,7 +55,7 @@ fn whose(wakes: Wakes, slot: Slot) -> Which
 }
 
 // Done, with the stream's wakes.
-pub(crate) fn told(woke: bool, slot: Slot, wakes: Wakes) -> Answer
+pub(crate) fn told(woke: bool, slot: Slot, wakes: StreamWakes) -> Answer
     ensures { λ r. ⌜ r ≡ told woke slot wakes ⌝ }
 {
     let shown = whose(wakes, slot);

@@ -13,7 +13,7 @@ use rules::Value;
 use rules::Which;
 use stream::Sent;
 use stream::Stream;
-use stream::Wakes;
+use stream::StreamWakes;
 use stream::Written;
 
 fn write_action(slot: Slot, listed: bool, written: Written) -> Action
@@ -85,7 +85,7 @@ fn ping_sent(rtt: Rtt, ping: NextPing) -> PingStep
         let answer = answers::no_action(false);
         return PingStep { rtt, answer };
     };
-    let quiet = Wakes {
+    let quiet = StreamWakes {
         reader: false,
         writer: false,
     };

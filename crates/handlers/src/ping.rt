@@ -9,7 +9,7 @@ use rtt::Rtt;
 use rules::Value;
 use rules::Which;
 use stream::Sent;
-use stream::Wakes;
+use stream::StreamWakes;
 
 fn pong_heard(rtt: Rtt, heard: rtt::Pong) -> PingStep
     ensures { λ r. ⌜ r ≡ pongHeard rtt heard ⌝ }
@@ -26,7 +26,7 @@ fn pong_heard(rtt: Rtt, heard: rtt::Pong) -> PingStep
 fn ping_heard(rtt: Rtt, value: u32) -> PingStep
     ensures { λ r. ⌜ r ≡ pingHeard rtt value ⌝ }
 {
-    let quiet = Wakes {
+    let quiet = StreamWakes {
         reader: false,
         writer: false,
     };

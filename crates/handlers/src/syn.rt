@@ -21,7 +21,7 @@ use rules::Which;
 use stream::Received;
 use stream::Sent;
 use stream::Stream;
-use stream::Wakes;
+use stream::StreamWakes;
 
 // Whether the id is of the remote's parity.
 pub fn is_valid_remote_id(mode: Mode, id: StreamId) -> bool
@@ -53,7 +53,7 @@ fn new_action(vacancy: Which, room: u32, woke: bool, stream: Stream, n: u32) -> 
     if room < n {
         return Action::Refuse(Reply::NoRoom);
     }
-    let quiet = Wakes {
+    let quiet = StreamWakes {
         reader: false,
         writer: false,
     };

@@ -11,7 +11,7 @@ use Rattle.rtt.specs.declared.NextPing.the-variants as ask
 use Rattle.flow_control.specs.Windows.{top}
 use Rattle.stream.specs.Streams as stream
 use Rattle.stream.specs.declared.Stream.{Stream}
-use Rattle.stream.specs.declared.Wakes.{Wakes}
+use Rattle.stream.specs.declared.StreamWakes.{StreamWakes}
 use Rattle.stream.specs.declared.Updated.{Updated}
 use Rattle.stream.specs.declared.ReadEnd.{ReadEnd}
 use Rattle.stream.specs.declared.ReadEnd.the-variants as reading
@@ -129,7 +129,7 @@ closeRules c i e =
 abbrev pub growthOf : Entry → ℕ
 growthOf e = e .stream .flow .«max_receive_window» - initialWindow
 
-abbrev pub dropWakes : Wakes → Rattle.rules.specs.declared.Woke.Woke
+abbrev pub dropWakes : StreamWakes → Rattle.rules.specs.declared.Woke.Woke
 dropWakes w = record { reader = w .reader; writer = w .writer; opener = false; all = false }
 
 -- "removes from the table whichever stream has that id, making it Closed"

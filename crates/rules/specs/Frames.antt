@@ -16,7 +16,7 @@ use Rattle.flow_control.specs.Windows.{top}
 use Rattle.stream.specs.States.{finish, isClosed}
 use Rattle.stream.specs.Streams.{newInbound, dataTaken, withState, onData, onWindowUpdate, reset, acknowledged}
 use Rattle.stream.specs.declared.Stream.{Stream}
-use Rattle.stream.specs.declared.Wakes.{Wakes}
+use Rattle.stream.specs.declared.StreamWakes.{StreamWakes}
 use Rattle.stream.specs.declared.Received.{Received}
 use Rattle.stream.specs.declared.Received.the-variants.{Taken, ProtocolError}
 use Rattle.stream.specs.declared.Sent.{Sent}
@@ -53,13 +53,13 @@ ackStep c h place =
 
 -- ---- answers of a frame
 
-abbrev pub frameWakes : Acked → Wakes → Rattle.rules.specs.declared.Woke.Woke
+abbrev pub frameWakes : Acked → StreamWakes → Rattle.rules.specs.declared.Woke.Woke
 frameWakes a w = record { reader = w .reader; writer = w .writer; opener = a .woke; all = false }
 
-abbrev pub quiet : Wakes
+abbrev pub quiet : StreamWakes
 quiet = record { reader = false; writer = false }
 
-abbrev pub answer : Acked → Which → Value → Sent → Wakes → Outcome
+abbrev pub answer : Acked → Which → Value → Sent → StreamWakes → Outcome
 answer a slot v h w = record { reply = reply.Done; slot = slot; value = v; header = h; body = []; wakes = frameWakes a w; bytes = [] }
 
 -- "done, no action"
@@ -74,7 +74,7 @@ goAway a code =
     (a .conn)
 
 -- "for a frame or open, the new or woken stream's": the slot is told where its reader or its writer is woken
-abbrev pub whose : Wakes → ℕ → Which
+abbrev pub whose : StreamWakes → ℕ → Which
 whose w i = cond (w .reader) (which.At (record { 0 = i })) (cond (w .writer) (which.At (record { 0 = i })) which.None)
 
 -- ---- RST

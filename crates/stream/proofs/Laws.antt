@@ -23,7 +23,7 @@ use Rattle.stream.specs.declared.State.the-variants.{Open, SendClosed, R
 use Rattle.stream.specs.declared.Flag.{Flag}
 use Rattle.stream.specs.declared.Flag.the-variants as owed
 use Rattle.stream.specs.declared.Stream.{Stream}
-use Rattle.stream.specs.declared.Wakes.{Wakes}
+use Rattle.stream.specs.declared.StreamWakes.{StreamWakes}
 use Rattle.stream.specs.declared.Received.the-variants.{Taken, ProtocolError}
 use Rattle.stream.specs.declared.Sent.{Sent}
 use Rattle.stream.specs.declared.Sent.the-variants.{Frame, Nothing}
@@ -34,19 +34,19 @@ use Rattle.stream.specs.declared.Written.the-variants as written
 -- ---- frames received
 
 either-taken :
-    (b : Bool) (s t : Stream) (v w : Wakes) → cond b (Taken s v) ProtocolError ≡ Taken t w →
+    (b : Bool) (s t : Stream) (v w : StreamWakes) → cond b (Taken s v) ProtocolError ≡ Taken t w →
     (b ≡ true) × (t ≡ s) × (w ≡ v)
 either-taken true s t v w e = (refl, cc, cc)
 either-taken false s t v w e = (cc, cc, cc)
 
-either-error : (b : Bool) (s : Stream) (v : Wakes) → cond b (Taken s v) ProtocolError ≡ ProtocolError → b ≡ false
+either-error : (b : Bool) (s : Stream) (v : StreamWakes) → cond b (Taken s v) ProtocolError ≡ ProtocolError → b ≡ false
 either-error true s v e = cc
 either-error false s v e = refl
 
 module _ (s : Stream) (n : ℕ) (fin : Bool) where
   -- a body that is taken fits the receive window
   pub data-taken :
-      (t : Stream) (w : Wakes) → onData s n fin ≡ Taken t w →
+      (t : Stream) (w : StreamWakes) → onData s n fin ≡ Taken t w →
       (n ≤ s .flow .«receive_window») × (t ≡ dataTaken s n fin) × (w ≡ wakes (s .reader) false)
   data-taken t w e =
       let h = either-taken (leb n (s .flow .«receive_window»)) (dataTaken s n fin) t (wakes (s .reader) false) w e in
@@ -58,7 +58,7 @@ module _ (s : Stream) (n : ℕ) (fin : Bool) where
 module _ (s : Stream) (c : Credit) (fin : Bool) where
   -- a credit that is taken leaves a send window of 32 bits
   pub update-taken :
-      (t : Stream) (w : Wakes) → onWindowUpdate s c fin ≡ Taken t w →
+      (t : Stream) (w : StreamWakes) → onWindowUpdate s c fin ≡ Taken t w →
       (s .flow .«send_window» + c .0 ≤ top) × (t ≡ updateTaken s c fin) × (w ≡ wakes (cond fin (s .reader) false) (s .writer))
   update-taken t w e =
       let v = wakes (cond fin (s .reader) false) (s .writer) in

@@ -18,7 +18,7 @@ use Rattle.stream.specs.declared.State.the-variants.{Open, SendClosed, R
 use Rattle.stream.specs.declared.Flag.{Flag}
 use Rattle.stream.specs.declared.Flag.the-variants as owed
 use Rattle.stream.specs.declared.Stream.{Stream}
-use Rattle.stream.specs.declared.Wakes.{Wakes}
+use Rattle.stream.specs.declared.StreamWakes.{StreamWakes}
 use Rattle.stream.specs.declared.Sent.{Sent}
 use Rattle.stream.specs.declared.Sent.the-variants.{Frame, Nothing}
 use Rattle.stream.specs.declared.Received.{Received}
@@ -55,7 +55,7 @@ withState s t = record { id = s .id; flag = s .flag; state = t; reader = s .read
 abbrev pub withWaits : Stream → Bool → Bool → Stream
 withWaits s r w = record { id = s .id; flag = s .flag; state = s .state; reader = r; writer = w; flow = s .flow }
 
-abbrev pub wakes : Bool → Bool → Wakes
+abbrev pub wakes : Bool → Bool → StreamWakes
 wakes r w = record { reader = r; writer = w }
 
 -- ---- frames received

@@ -44,7 +44,7 @@ pub struct Stream {
 }
 
 // Who waited, and waits no more.
-pub struct Wakes {
+pub struct StreamWakes {
     pub reader: bool,
     pub writer: bool,
 }
@@ -57,13 +57,13 @@ pub enum Sent {
 
 // A frame was taken, or breaks the protocol.
 pub enum Received {
-    Taken(Stream, Wakes),
+    Taken(Stream, StreamWakes),
     ProtocolError,
 }
 
 pub struct Woken {
     pub stream: Stream,
-    pub wakes: Wakes,
+    pub wakes: StreamWakes,
 }
 
 // Whether a read took the window step, and what that did.
@@ -99,7 +99,7 @@ pub struct Closing {
 pub struct Dropped {
     pub stream: Stream,
     pub sent: Sent,
-    pub wakes: Wakes,
+    pub wakes: StreamWakes,
 }
 
 impl Stream {
@@ -157,7 +157,7 @@ impl Stream {
             flow,
             ..self
         };
-        let wakes = Wakes {
+        let wakes = StreamWakes {
             reader: self.reader,
             writer: false,
         };
@@ -189,13 +189,13 @@ impl Stream {
                 reader: false,
                 ..stream
             };
-            let wakes = Wakes {
+            let wakes = StreamWakes {
                 reader: self.reader,
                 writer: self.writer,
             };
             return Received::Taken(stream, wakes);
         }
-        let wakes = Wakes {
+        let wakes = StreamWakes {
             reader: false,
             writer: self.writer,
         };
@@ -214,7 +214,7 @@ impl Stream {
         };
         Woken {
             stream,
-            wakes: Wakes {
+            wakes: StreamWakes {
                 reader: self.reader,
                 writer: self.writer,
             },
