@@ -95,7 +95,7 @@ fn piece_at(links: &[u32], at: u32, need: usize) -> Piece
 }
 
 // Copies the chain's bytes, from byte `from` of its first block on, to all of out, piece by piece.
-pub fn gather(links: &[u32], pool: &[u8], at: u32, from: usize, out: &mut [u8])
+pub(crate) fn gather(links: &[u32], pool: &[u8], at: u32, from: usize, out: &mut [u8])
     requires { ⌜ from < BLOCK ⌝ }
     ensures { λ _. ⌜ Gathers (now (links .entry)) (now (pool .entry)) at from (from + length (now (out .entry))) (length (now (out .entry))) (now (out .exit)) ⌝ }
 {
@@ -114,7 +114,7 @@ pub fn gather(links: &[u32], pool: &[u8], at: u32, from: usize, out: &mut [u8])
 }
 
 // Copies body into the chain's blocks, from byte `used` of the first on, piece by piece. Returns the last of them.
-pub fn scatter(links: &[u32], pool: &mut [u8], at: u32, used: usize, body: &[u8]) -> u32
+pub(crate) fn scatter(links: &[u32], pool: &mut [u8], at: u32, used: usize, body: &[u8]) -> u32
     requires { ⌜ used < BLOCK ⌝ }
     ensures { λ r. ⌜ r ≡ hop (now (links .entry)) at (hold (used + length (now (body .entry))) - 1) ⌝ }
     ensures { λ _. ⌜ Scatters (now (links .entry)) (now (pool .entry)) at used (used + length (now (body .entry))) (now (body .entry)) (now (pool .exit)) ⌝ }

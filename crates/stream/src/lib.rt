@@ -133,7 +133,7 @@ impl Stream {
         Stream::new(id, Flag::Syn, DEFAULT_CREDIT, now)
     }
 
-    // The state that a change to `next` leads to.
+    // The stream in the state that a change to `next` leads to.
     pub(crate) fn update_state(self, next: State) -> Stream
         ensures { λ r. ⌜ r ≡ withState self (change (self .state) next) ⌝ }
     {
