@@ -47,9 +47,7 @@ cast-result : tie.Need-cast-result Inv-loop μ-loop
 cast-result c = search needs
 
 returns : tie.Need-returns Inv-loop μ-loop
-returns c =
-    let v = c .before .before .before .loop in
-    (v .inv .0, v .inv .1, v .inv .6)
+returns c = (search needs, search needs, c .before .before .before .loop .inv .6)
 
 loop-less : tie.Need-loop-less Inv-loop μ-loop
 loop-less c = search needs
@@ -65,9 +63,7 @@ cast-result-2 : tie.Need-cast-result-2 Inv-loop μ-loop
 cast-result-2 c = search needs
 
 returns-2 : tie.Need-returns-2 Inv-loop μ-loop
-returns-2 c =
-    let v = c .before .loop in
-    (v .inv .0, v .inv .1, v .inv .6)
+returns-2 c = (search needs, search needs, c .before .loop .inv .6)
 
 pub run-spec : {M : Type 1} → statement M
 run-spec =
