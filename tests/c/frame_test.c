@@ -1,5 +1,5 @@
 /* The C side of `frame` against a second encoder, written here from what document 01 gives of the Yamux specification's
- * header ("Twelve bytes, big-endian: .."); the specification's own text was not at hand (docs/DECISIONS.md, 17). */
+ * header ("Twelve bytes, big-endian: .."). tests/go holds it to the encoder of the specification's authors. */
 #include "yamux_frame.h"
 
 #include <stdio.h>
