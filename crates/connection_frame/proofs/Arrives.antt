@@ -1,116 +1,85 @@
--- How a frame comes to its rule: by the action that its handler decides from what it is shown. Assumes nothing.
+-- How a Data frame or a WindowUpdate comes to its rule: by the action that its handler decides from what it is shown. Assumes nothing.
 use mathlib.Core.Path.{_≡_, refl, sym, ap, _∙_}
-use mathlib.Core.Bool.{Bool, true, false}
-use mathlib.Core.List.{List, [], _∷_}
+use mathlib.Core.Bool.{Bool, true}
+use mathlib.Core.List.{List, [], append-nil}
 use Prim.Native.Nat.{ℕ}
-use lib.ListN.{length}
-use Rattle.frame.specs.Header.{contains, syn, rst}
+use lib.ListN.{length, set}
 use Rattle.frame.specs.declared.header.Header.{Header}
-use Rattle.frame.specs.declared.header.Tag.the-variants as tag
-use Rattle.rules.specs.State.{Entry, Conn, find, lowestFree, withOpenWait, foundOf}
-use Rattle.rules.specs.Ending.{Result}
-use Rattle.rules.specs.Frames.{frameRules}
-use Rattle.table.specs.Table.{Finds}
+use Rattle.stream.specs.declared.Stream.{Stream}
+use Rattle.rules.specs.Ending.{Result, gives}
+use Rattle.rules.specs.Frames.{frameRules, bodyLength, newEntry}
+use Rattle.rules.specs.Replies.{mayGive}
+use Rattle.rules.specs.State.{Entry, Conn, entry, find, withSlot}
+use Rattle.rules.specs.declared.Slot.{Slot}
 use Rattle.rules.specs.declared.Which.{Which}
-use Rattle.handlers.specs.Perform.{perform, dataAction, updateAction, knownAt, limitsOf, wakesOpen, withoutWait}
+use Rattle.table.specs.Table.{Finds}
+use Rattle.table.specs.declared.row.Row.{Row}
+use Rattle.handlers.specs.Perform.{outcomeOf, waitsOn, heard, perform, wakesOpen, ofStream}
 use Rattle.handlers.specs.declared.Action.{Action}
-use Rattle.handlers.specs.declared.Known.{Known}
-use Rattle.handlers.specs.declared.Limits.{Limits}
-use Rattle.rules.specs.declared.Which.the-variants as which
-use Rattle.handlers.proofs.Rules.{ListedHeld, data-performs, update-performs, data-with-rst, data-without-syn, update-with-rst, update-without-syn}
+use Rattle.handlers.specs.declared.Answer.{Answer}
+use Rattle.handlers.proofs.Rules.{stream-performs}
+use Rattle.memory.specs.Moves.{Moved, held, Follows}
 use Rattle.memory.specs.Slots.{slotsOf}
-use Rattle.memory.proofs.Laws.{listed-held}
+use Rattle.memory.specs.declared.Memory.{Memory}
+use Rattle.memory.proofs.Laws.{never, listed-held}
 use Rattle.connection.specs.Abstract.{absOf, Valid}
+use Rattle.connection.specs.Promises.{Handles}
 use Rattle.connection.specs.declared.Connection.{Connection}
-use Rattle.connection.specs.declared.Done.{Done}
-use Rattle.connection_frame.specs.Shown.{seenAt, vacancyFor, limitsIn, waitAfter, wokenBy, viewAt, decided}
-use Rattle.connection_frame.specs.Handles.{Handles, Sound, Fits, Applies, HandlesStream}
-use Rattle.connection_frame.specs.declared.shown.View.{View}
-use Rattle.connection_frame.proofs.Walk.{Closed, data-walk, update-walk}
-use Rattle.connection_frame.proofs.Sees.{sees-limits, sees-vacancy, sees-known, sees-wait, all-fits, all-sound}
+use Rattle.connection.proofs.Ids.{Kept, below-set}
+use Rattle.connection.proofs.Moving.{becomes-follows, answer-follows, told}
+use Rattle.connection.proofs.Promises.{same-handles, acted, refused-handles}
+use Rattle.connection_frame.specs.Shown.{seenAt, vacancyFor, limitsIn, decided}
+use Rattle.connection_frame.specs.Handles.{Applies, settled}
+use Rattle.connection_frame.specs.declared.Applied.{Applied}
+use Rattle.connection_frame.proofs.Walk.{Closed, walk}
+use Rattle.connection_frame.proofs.Sees.{remote-not-own, sees, replaces, has-room, makes}
 
--- a rule that is another from a valid state
-pub same-handles : (c : Connection) (t l p : List ℕ) (rule rule′ : Conn → Result) (d : Done) (t′ l′ p′ : List ℕ)
-    → (Valid c t l p → rule′ (absOf c t l p) ≡ rule (absOf c t l p)) → Handles rule c t l p d t′ l′ p′ → Handles rule′ c t l p d t′ l′ p′
-same-handles c t l p rule rule′ d t′ l′ p′ same h = record {
-  steps = λ v. rw (same v) (h .steps v);
-  refuses = h .refuses;
-  silent = h .silent;
-}
+module _ (c : Connection) (t l p : List ℕ) where
+  abbrev S : List Entry
+  S = slotsOf (c .memory) t l p
 
-no-bytes : (b : List ℕ) → length b ≡ 0 → b ≡ []
-no-bytes [] e = refl
-no-bytes (x ∷ b) e = cc
+  -- one slot changed, by an action that is no refusal
+  moves : (rule : Conn → Result) (o : Answer) (m : Memory) (t′ l′ p′ : List ℕ) (i : ℕ) (e : Entry)
+      → rule (absOf c t l p) ≡ gives (outcomeOf o) (withSlot (heard (absOf c t l p) o) i e) → mayGive (o .reply) ≡ true
+      → (Valid c t l p → Kept (c .config .mode) (c .«next_id») e × Moved (c .memory) t l p i e m t′ l′ p′)
+      → Handles rule c t l p (settled c (record { memory = m; answer = o })) t′ l′ p′
+  moves rule o m t′ l′ p′ i e same given f =
+      acted c t l p rule (settled c (record { memory = m; answer = o })) t′ l′ p′ given
+      (λ v. rw same (becomes-follows c t l p m (set S i e) t′ l′ p′ (f v .1) (c .rtt) (c .ended) (c .«next_id») (waitsOn (c .«open_wait») o) (c .growth)
+      (v .fresh .parity) (below-set (c .config .mode) (c .«next_id») S i e (f v .0) (v .fresh .below)) o (outcomeOf o) 0 (told o) refl))
 
--- the same action, from parts that are the same
-alike : (q : Limits → Known → Which → Action) (a b : Limits) (k j : Known) (v w : Which) → a ≡ b → k ≡ j → q b j v ≡ q b j w → q a k v ≡ q b j w
-alike q a b k j v w e f g = rw (e, f) g
+  module _ (h : Header) (body : List ℕ) (now : ℕ) (f : Which) (finds : Finds t (c .memory .slots) (h .«stream_id») f) (n : length body ≡ bodyLength (h .tag) (h .length .0)) where
+    abbrev row : Row
+    row = seenAt t (c .memory .slots) f h .row
 
--- ---- a Data frame or a WindowUpdate, `q` being what its handler decides
+    kept : Valid c t l p → (i : Slot) (u : Stream) (b : Bool) → Follows (entry S (i .0)) u b → Kept (c .config .mode) (c .«next_id») (held u b [])
+    kept v i u b w y own = rw (w .id) (v .fresh .below (i .0) (w .listed y) (rw (w .id) at own))
 
-module _ (c : Connection) (t l p : List ℕ) (h : Header) (body : List ℕ) (rule : Conn → Result)
-    (q : Limits → Bool → Known → Which → Action)
-    (with-rst : (a : Limits) (b : Bool) (k : Known) (v : Which) → contains (h .flags) rst ≡ true → q a b k v ≡ q a b k which.None)
-    (without-syn : (a : Limits) (b : Bool) (k : Known) (v : Which) → contains (h .flags) syn ≡ false → q a b k v ≡ q a b k which.None)
-    (walk : (Q : Action → Type 0) (a : Limits) (b : Bool) (k : Known) (v : Which) → Closed Q a k v h (length body) → Q (q a b k v))
-    (performs : (x : Conn) → ListedHeld x →
-    rule x ≡ perform x (withoutWait x h) body (q (limitsOf x) (wakesOpen x h) (knownAt x h (find (x .slots) (h .«stream_id»))) (foundOf (lowestFree (x .slots)))))
-  where
-    abbrev S : List Entry
-    S = slotsOf (c .memory) t l p
+    -- an action that is applied is performed
+    abbrev Does : Action → Type 0
+    Does a = (r : Applied) (t′ l′ p′ : List ℕ) → Applies (c .memory) t l p row a body r t′ l′ p′ → Handles (λ x. perform x body a) c t l p (settled c r) t′ l′ p′
 
-    abbrev x : Conn
-    x = absOf c t l p
+    does : Closed Does (limitsIn c) (seenAt t (c .memory .slots) f h .known) (vacancyFor t (c .memory .slots) h) h
+    unfolding perform
+    does = record {
+      refuses = λ q r t′ l′ p′ a. rw (a .0, a .1, a .2, a .3) (refused-handles c t l p q);
+      answers = λ o g r t′ l′ p′ a. rw (a .0, a .1, a .2, a .3)
+          (acted c t l p (λ x. gives (outcomeOf o) (heard x o)) _ t l p g (answer-follows c t l p (c .rtt) (waitsOn (c .«open_wait») o) o));
+      stores = λ i s u b o e d g r t′ l′ p′ a. rw (a .0, a .2, a .3)
+          (moves _ o (r .memory) t′ l p (i .0) (held u b (entry S (i .0) .bytes)) (rw append-nil) g
+          (λ v. let w = replaces c t l p v h f finds i s u b e d in (kept v i u b (w .2), a .1 l p (w .0) (v .memory) (w .1) (w .2))));
+      queues = λ i s u b o e d m g r t′ l′ p′ a. rw (a .0)
+          (moves _ o (r .memory) t′ l′ p′ (i .0) _ refl g
+          (λ v. let w = replaces c t l p v h f finds i s u b e d in (kept v i u b (w .2), a .1 (w .0) (v .memory) (w .1) (w .2) (rw n (has-room c t l p v h f finds m)))));
+      makes = λ i s o e k q d m g r t′ l′ p′ a. rw (a .0)
+          (moves _ o (r .memory) t′ l′ p′ (i .0) (newEntry s body) refl g
+          (λ v. let w = makes c t l p v h f finds i e k in
+          (λ x own. never (sym own ∙ rw d (remote-not-own (c .config .mode) (h .«stream_id») q)), a .1 (v .memory) (w .0) (w .1) (rw d (w .2)) (rw n (has-room c t l p v h f finds m)))));
+    }
 
-    abbrev after : Conn
-    after = withOpenWait x (waitAfter (c .«open_wait») h)
-
-    -- the action decided from a view
-    abbrev asked : View → Action
-    asked r = q (r .limits) (r .woke) (r .seen .known) (r .vacancy)
-
-    module _ (f : Which) (finds : Finds t (c .memory .slots) (h .«stream_id») f) where
-      abbrev view : View
-      view = viewAt c t h f
-
-      shown-same : Valid c t l p → asked view ≡ q (limitsOf x) (wakesOpen x h) (knownAt x h (find S (h .«stream_id»))) (foundOf (lowestFree S))
-      shown-same v =
-          alike (λ a k w. q a (wakesOpen x h) k w) (limitsIn c) (limitsOf x) (seenAt t (c .memory .slots) f h .known) (knownAt x h (find S (h .«stream_id»))) (vacancyFor t (c .memory .slots) h) (foundOf (lowestFree S))
-          (sees-limits c t l p v) (sees-known c t l p v h f finds)
-          (sees-vacancy c t l p v h (λ w. q (limitsOf x) (wakesOpen x h) (knownAt x h (find S (h .«stream_id»))) w)
-          (with-rst (limitsOf x) (wakesOpen x h) (knownAt x h (find S (h .«stream_id»))) (foundOf (lowestFree S)))
-          (without-syn (limitsOf x) (wakesOpen x h) (knownAt x h (find S (h .«stream_id»))) (foundOf (lowestFree S))))
-
-      shown-rule : Valid c t l p → rule x ≡ perform x after body (asked view)
-      shown-rule v =
-          performs x (listed-held (c .memory) t l p (v .memory))
-          ∙ ap (λ (a : Conn). perform x a body (q (limitsOf x) (wakesOpen x h) (knownAt x h (find S (h .«stream_id»))) (foundOf (lowestFree S)))) (sees-wait c t l p h)
-          ∙ ap (λ (a : Action). perform x after body a) (sym (shown-same v))
-
-      shown-handles : (d : Done) (t′ l′ p′ : List ℕ) → Applies c t l p (view .«open_wait») (view .seen .row) (asked view) body d t′ l′ p′ → Handles rule c t l p d t′ l′ p′
-      shown-handles d t′ l′ p′ a =
-          same-handles c t l p (λ y. perform y (withOpenWait y (waitAfter (c .«open_wait») h)) body (asked view)) rule d t′ l′ p′ shown-rule
-          (a (walk Sound (limitsIn c) (wokenBy (c .«open_wait») h) _ _ (all-sound c t f h (length body)))
-          (λ v. walk (Fits c t l p (seenAt t (c .memory .slots) f h .row) (length body)) (limitsIn c) (wokenBy (c .«open_wait») h) _ _ (all-fits c t l p v h f finds (length body))))
-
-    pub handled : (r : View) → r ≡ viewAt c t h (r .found) → Finds t (c .memory .slots) (h .«stream_id») (r .found)
-        → (d : Done) (t′ l′ p′ : List ℕ) → Applies c t l p (r .«open_wait») (r .seen .row) (asked r) body d t′ l′ p′ → Handles rule c t l p d t′ l′ p′
-    handled r e finds d t′ l′ p′ a = shown-handles (r .found) finds d t′ l′ p′ (rw e at a)
-
-module _ (c : Connection) (t l p : List ℕ) (h : Header) (body : List ℕ) (now : ℕ) (r : View) (e : r ≡ viewAt c t h (r .found))
-    (finds : Finds t (c .memory .slots) (h .«stream_id») (r .found)) (d : Done) (t′ l′ p′ : List ℕ)
-  where
-    -- a Data frame, or a WindowUpdate
-    pub stream-handled : (isData : Bool) → Applies c t l p (r .«open_wait») (r .seen .row) (decided isData r h now) body d t′ l′ p′
-        → HandlesStream isData c t l p h body now d t′ l′ p′
-    unfolding frameRules
-    stream-handled true a n =
-        handled c t l p h body (λ x. frameRules tag.Data x h body (find (x .slots) (h .«stream_id»)) now) (λ a b k v. dataAction a b k v h now)
-        (λ a b k v. data-with-rst a b k v h now) (λ a b k v. data-without-syn a b k v h now)
-        (λ Q a b k v w. data-walk Q a b k v h now (length body) w n)
-        (λ x held. data-performs x h now held body n) r e finds d t′ l′ p′ a
-    stream-handled false a n =
-        handled c t l p h body (λ x. frameRules tag.WindowUpdate x h body (find (x .slots) (h .«stream_id»)) now) (λ a b k v. updateAction a b k v h now)
-        (λ a b k v. update-with-rst a b k v h now) (λ a b k v. update-without-syn a b k v h now)
-        (λ Q a b k v w. update-walk Q a b k v h now (length body) w n)
-        (λ x held. rw (no-bytes body n) (update-performs x h now held)) r e finds d t′ l′ p′ a
+    pub stream-handled : (r : Applied) (t′ l′ p′ : List ℕ) → Applies (c .memory) t l p (decided c t f h now .row) (decided c t f h now .action) body r t′ l′ p′
+        → ofStream (h .tag) ≡ true → Handles (λ x. frameRules (h .tag) x h body (find (x .slots) (h .«stream_id»)) now) c t l p (settled c r) t′ l′ p′
+    stream-handled r t′ l′ p′ a tagged =
+        same-handles c t l p (λ x. perform x body (decided c t f h now .action)) (λ x. frameRules (h .tag) x h body (find (x .slots) (h .«stream_id»)) now) (settled c r) t′ l′ p′
+        (λ v. stream-performs (absOf c t l p) h body now (listed-held (c .memory) t l p (v .memory)) tagged n ∙ ap (λ (x : Action). perform (absOf c t l p) body x) (sym (sees c t l p v h f finds now)))
+        (walk Does (limitsIn c) (wakesOpen (c .«open_wait») h) (seenAt t (c .memory .slots) f h .known) (vacancyFor t (c .memory .slots) h) h now does r t′ l′ p′ a)

@@ -1,5 +1,4 @@
 -- Laws that the proofs of the frames share.
-pub mod Settling
 pub mod Walk
 pub mod Sees
 pub mod Arrives

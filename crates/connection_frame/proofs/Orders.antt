@@ -1,10 +1,11 @@
 -- How a frame's call comes to its promise: the Ping, and the order of the replies. Assumes nothing.
-use mathlib.Core.Path.{_≡_, refl, sym, ap, _∙_}
+use mathlib.Core.Path.{_≡_, refl, ap, _∙_}
 use mathlib.Core.Bool.{Bool, true, false, cond}
 use mathlib.Core.List.{List}
 use Prim.Native.Nat.{ℕ}
 use native.Mathlib.Omega.{arith}
 use lib.Dec.{eqb}
+use borrow.Author.Tests.{eq-eqb, ne-eqb}
 use lib.ListN.{length, getD}
 use Rattle.frame.specs.Header.{contains, ack, session}
 use Rattle.frame.specs.Wire.{decoded, typeOf, typedAs}
@@ -12,7 +13,6 @@ use Rattle.frame.specs.declared.header.Decoded.{Decoded}
 use Rattle.frame.specs.declared.header.Decoded.the-variants as found
 use Rattle.frame.specs.declared.header.Header.{Header}
 use Rattle.frame.specs.declared.header.Tag.{Tag}
-use Rattle.frame.specs.declared.header.Tag.the-variants as tag
 use Rattle.frame.specs.declared.header.Typed.{Typed}
 use Rattle.frame.specs.declared.header.Typed.the-variants as typed
 use Rattle.rtt.specs.Pings.{handlePong}
@@ -22,31 +22,30 @@ use Rattle.rtt.specs.declared.Rtt.{Rtt}
 use Rattle.rules.specs.Lists.{Place, at, nowhere}
 use Rattle.rules.specs.Replies.{mayGive}
 use Rattle.rules.specs.State.{Conn, find, foundOf}
-use Rattle.rules.specs.Ending.{refuse}
+use Rattle.rules.specs.Ending.{Result, refuse}
 use Rattle.rules.specs.Frames.{pingRules, isKnown, frameRules, bodyLength, onHeader}
 use Rattle.rules.specs.Step.{step, frame, timed, live, onDecoded}
 use Rattle.rules.specs.declared.Reply.{Reply}
 use Rattle.rules.specs.declared.Reply.the-variants as reply
+use Rattle.rules.specs.declared.Which.{Which}
 use Rattle.rules.proofs.Lists.{both}
 use Rattle.table.specs.Table.{Finds}
-use Rattle.rules.specs.declared.Which.{Which}
 use Rattle.handlers.specs.Actions.{pongHeard, pingHeard, noAction, onPing}
 use Rattle.handlers.proofs.Rules.{ping-performs}
 use Rattle.memory.specs.Slots.{slotsOf}
-use Rattle.memory.proofs.Laws.{never, find-slots}
+use Rattle.memory.proofs.Laws.{find-slots}
 use Rattle.connection.specs.Abstract.{absOf, Valid}
-use Rattle.connection.specs.Parts.{pinged}
+use Rattle.connection.specs.Parts.{pinged, gateOf}
 use Rattle.connection.specs.Promises as connection
-use Rattle.connection.specs.Promises.{refused, gateOf, Follows, Promised, Over}
-use Rattle.connection.proofs.Promises.{giving-leaves, answer-follows}
-use Rattle.connection.proofs.Tests.{gate-shut, gate-open}
+use Rattle.connection.specs.Promises.{refused, Follows, Handles, Promised}
 use Rattle.connection.specs.declared.Connection.{Connection}
 use Rattle.connection.specs.declared.Done.{Done}
 use Rattle.connection.specs.declared.Gate.the-variants as gate
+use Rattle.connection.proofs.Moving.{answer-follows}
+use Rattle.connection.proofs.Promises.{same-handles, acted, refused-handles, wrong-size, promised}
+use Rattle.connection.proofs.Tests.{gate-shut, gate-open}
 use Rattle.connection_frame.specs.Shown.{isFound}
-use Rattle.connection_frame.specs.Handles.{Handles, HandlesPing, HandlesHeader, foundRules, HandlesFound, HandlesDecoded, sized}
-use Rattle.connection_frame.proofs.Settling.{refused-handles, over-handles}
-use Rattle.connection_frame.proofs.Arrives.{same-handles}
+use Rattle.connection_frame.specs.Handles.{foundRules, HandlesDecoded, sized}
 
 -- ---- Ping
 
@@ -70,11 +69,8 @@ found-known nowhere = refl
 
 pub ping-handles : (c : Connection) (t : List ℕ) (h : Header) (now : ℕ) (f : Which) → Finds t (c .memory .slots) (h .«stream_id») f → (l p : List ℕ)
     → Handles (λ x. pingRules x h now) c t l p (pinged c (onPing (c .rtt) (isFound f) h now (c .config .interval))) t l p
-ping-handles c t h now f finds l p = record {
-  steps = follows;
-  refuses = λ e. never (sym e ∙ giving-leaves (onPing (c .rtt) (isFound f) h now (c .config .interval) .answer .reply) (ping-gives (c .rtt) (isFound f) h now (c .config .interval)));
-  silent = λ e. never (sym (ping-gives (c .rtt) (isFound f) h now (c .config .interval)) ∙ e);
-}
+ping-handles c t h now f finds l p =
+    acted c t l p (λ x. pingRules x h now) (pinged c (onPing (c .rtt) (isFound f) h now (c .config .interval))) t l p (ping-gives (c .rtt) (isFound f) h now (c .config .interval)) follows
   where
     known : Valid c t l p → isFound f ≡ isKnown (find (slotsOf (c .memory) t l p) (h .«stream_id»))
     known v = ap isFound (find-slots (c .memory) t l p (v .memory) (h .«stream_id») f finds) ∙ found-known (find (slotsOf (c .memory) t l p) (h .«stream_id»))
@@ -87,45 +83,22 @@ ping-handles c t h now f finds l p = record {
 -- ---- the type
 
 module _ (c : Connection) (t l p : List ℕ) (h : Header) (body : List ℕ) (now : ℕ) (d : Done) (t′ l′ p′ : List ℕ) where
-  abbrev ByType : Tag → Type 0
-  ByType k = length body ≡ bodyLength k (h .length .0) → Handles (λ x. frameRules k x h body (find (x .slots) (h .«stream_id»)) now) c t l p d t′ l′ p′
-
-  pub as-type : (k a : Tag) → a ≡ k → ByType k → ByType a
+  pub as-type : (k a : Tag) → a ≡ k → Handles (λ x. frameRules k x h body (find (x .slots) (h .«stream_id»)) now) c t l p d t′ l′ p′
+      → Handles (λ x. frameRules a x h body (find (x .slots) (h .«stream_id»)) now) c t l p d t′ l′ p′
   as-type k a e f = rw e f
-
-module _ (c : Connection) (t l p : List ℕ) (h : Header) (body : List ℕ) (now : ℕ) (d : Done) where
-  pub ping-type : HandlesPing c t h now d → ByType c t l p h body now d t l p tag.Ping
-  unfolding frameRules
-  ping-type f e = f l p
-
-  pub go-away-type : (t′ : List ℕ) → Over c t reply.Closed d t′ → ByType c t l p h body now d t′ l p tag.GoAway
-  unfolding frameRules
-  go-away-type t′ over e = over-handles c t l p reply.Closed d t′ over refl
 
 -- ---- the body's length
 
 module _ (c : Connection) (t l p : List ℕ) (h : Header) (body : List ℕ) (now : ℕ) where
-  pub header-handles : eqb (length body) (bodyLength (h .tag) (h .length .0)) ≡ true → (d : Done) (t′ l′ p′ : List ℕ)
-      → Handles (λ x. frameRules (h .tag) x h body (find (x .slots) (h .«stream_id»)) now) c t l p d t′ l′ p′ → HandlesHeader c t l p h body now d t′ l′ p′
+  pub header-handles : length body ≡ bodyLength (h .tag) (h .length .0) → (d : Done) (t′ l′ p′ : List ℕ)
+      → Handles (λ x. frameRules (h .tag) x h body (find (x .slots) (h .«stream_id»)) now) c t l p d t′ l′ p′ → Handles (λ x. onHeader x h body now) c t l p d t′ l′ p′
   unfolding onHeader
-  header-handles e d t′ l′ p′ = same-handles c t l p _ (λ x. onHeader x h body now) d t′ l′ p′ (λ v. rw e)
+  header-handles e d t′ l′ p′ = same-handles c t l p _ (λ x. onHeader x h body now) d t′ l′ p′ (λ v. rw (eq-eqb _ _ e))
 
-  pub header-refused : eqb (length body) (bodyLength (h .tag) (h .length .0)) ≡ false → HandlesHeader c t l p h body now (refused c reply.Body) t l p
+  pub header-refused : (length body ≡ bodyLength (h .tag) (h .length .0) → ⊥) → Handles (λ x. onHeader x h body now) c t l p (refused c reply.Body) t l p
   unfolding onHeader
-  header-refused e = same-handles c t l p (λ x. refuse x reply.Body) (λ x. onHeader x h body now) (refused c reply.Body) t l p (λ v. rw e) (refused-handles c t l p reply.Body)
-
--- ---- "10, 5 (ended)"
-
-module _ (c : Connection) (t l p : List ℕ) (f : Decoded) (body : List ℕ) (now : ℕ) where
-  pub shut-gate : (r : Reply) → gateOf (c .ended) now ≡ gate.Shut r → HandlesDecoded c t l p f body now (refused c r) t l p
-  shut-gate r e =
-      same-handles c t l p (λ x. refuse x r) (λ x. timed x now (live x (foundRules f x body now))) (refused c r) t l p
-      (λ v. gate-shut (absOf c t l p) (c .ended) now (foundRules f (absOf c t l p) body now) r e) (refused-handles c t l p r)
-
-  pub open-gate : gateOf (c .ended) now ≡ gate.Open → (d : Done) (t′ l′ p′ : List ℕ) → HandlesFound c t l p f body now d t′ l′ p′ → HandlesDecoded c t l p f body now d t′ l′ p′
-  open-gate e d t′ l′ p′ =
-      same-handles c t l p (λ x. foundRules f x body now) (λ x. timed x now (live x (foundRules f x body now))) d t′ l′ p′
-      (λ v. gate-open (absOf c t l p) (c .ended) now (foundRules f (absOf c t l p) body now) e)
+  header-refused e =
+      same-handles c t l p (λ x. refuse x reply.Body) (λ x. onHeader x h body now) (refused c reply.Body) t l p (λ v. rw (ne-eqb _ _ e)) (refused-handles c t l p reply.Body)
 
 -- ---- the call
 
@@ -150,20 +123,22 @@ module _ (c : Connection) (t l p head body : List ℕ) (now sent : ℕ) where
   abbrev right : Bool
   right = sized c (length t) (length l) (length p) sent (length head)
 
-  pub wrong-promised : right ≡ false → Promised right c t l p (frame now head body) (refused c reply.Size) t l p
-  wrong-promised e = record {
-    steps = λ s v. never (sym s ∙ e);
-    wrong = λ w. refl;
-    refuses = λ w. (refl, refl, refl, refl);
-  }
+  abbrev next : Conn → Result
+  next x = foundRules (decoded head) x body now
 
-  pub right-promised : right ≡ true → (d : Done) (t′ l′ p′ : List ℕ) → HandlesDecoded c t l p (decoded head) body now d t′ l′ p′ → Promised right c t l p (frame now head body) d t′ l′ p′
+  in-order : right ≡ true → step (absOf c t l p) (frame now head body) ≡ timed (absOf c t l p) now (live (absOf c t l p) (next (absOf c t l p)))
   unfolding step
-  right-promised e d t′ l′ p′ h = record {
-    steps = λ s v. rw (ordered (decoded head) (absOf c t l p) body now (twelve head given)) (h .steps v);
-    wrong = λ w. never (sym e ∙ w);
-    refuses = h .refuses;
-  }
+  in-order e = ordered (decoded head) (absOf c t l p) body now (twelve head (both (connection.sized c (length t) (length l) (length p) sent) (eqb (length head) 12) e .1))
+
+  pub shut : (r : Reply) → gateOf right (c .ended) now ≡ gate.Shut r → Promised right c t l p (frame now head body) (refused c r) t l p
+  shut r e = go right refl e
     where
-      given : eqb (length head) 12 ≡ true
-      given = both (connection.sized c (length t) (length l) (length p) sent) (eqb (length head) 12) e .1
+      go : (b : Bool) → right ≡ b → gateOf b (c .ended) now ≡ gate.Shut r → Promised right c t l p (frame now head body) (refused c r) t l p
+      go true s g = gate-shut c t l p right (frame now head body) now (next (absOf c t l p)) (c .ended) r e (λ v. in-order s)
+      go false s g = let z : reply.Size ≡ r = cc in rw (← z) (wrong-size c t l p right (frame now head body) s)
+
+  pub passed : gateOf right (c .ended) now ≡ gate.Open → (d : Done) (t′ l′ p′ : List ℕ) → HandlesDecoded c t l p (decoded head) body now d t′ l′ p′
+      → Promised right c t l p (frame now head body) d t′ l′ p′
+  passed e d t′ l′ p′ =
+      let o = gate-open right (c .ended) now e in
+      promised c t l p right (frame now head body) (o .0) next d t′ l′ p′ (λ v. in-order (o .0) ∙ o .1 (absOf c t l p) (next (absOf c t l p)))

@@ -1,12 +1,12 @@
-// What a frame's handler is shown of the connection and of the table.
+// What a frame's handler is shown of the connection and of the table, and what it decides.
 ghost use mathlib.Core.Path.{_≡_};
-ghost use Rattle.table.specs.Table.{Finds};
-ghost use Rattle.connection_frame.specs.Shown.{seenAt, vacancyFor, limitsIn, waitAfter, wokenBy, viewAt};
+ghost use Rattle.handlers.specs.Perform.{wakesOpen};
+ghost use Rattle.connection_frame.specs.Shown.{seenAt, vacancyFor, limitsIn, decided};
 use connection::Connection;
 use frame::header::ACK;
 use frame::header::Header;
-use frame::header::RST;
 use frame::header::SYN;
+use handlers::Action;
 use handlers::Known;
 use handlers::Limits;
 use rules::Which;
@@ -18,14 +18,10 @@ pub struct Seen {
     pub row: Row,
 }
 
-// All that decides a Data frame or a WindowUpdate; `open_wait` is the wait that the ACK step leaves.
-pub struct View {
-    pub found: Which,
-    pub seen: Seen,
-    pub vacancy: Which,
-    pub limits: Limits,
-    pub woke: bool,
-    pub open_wait: bool,
+// What the frame does, and the row of its stream.
+pub struct Decided {
+    pub row: Row,
+    pub action: Action,
 }
 
 fn look(table: &[u64], k: u32, found: Which, header: Header) -> Seen
@@ -51,11 +47,8 @@ fn vacancy(table: &[u64], k: u32, header: Header) -> Which
     ensures { λ r. ⌜ r ≡ vacancyFor (now (table .entry)) k header ⌝ }
 {
     let flags = header.flags;
-    if flags.contains(RST) {
-        return Which::None;
-    }
     if flags.contains(SYN) {
-        return connection::vacancy(table, k);
+        return table::lowest_free(table, k);
     }
     Which::None
 }
@@ -77,37 +70,29 @@ fn limits(c: Connection) -> Limits
 
 // Whether the frame's ACK wakes an open that waits.
 fn woken(waits: bool, header: Header) -> bool
-    ensures { λ r. ⌜ r ≡ wokenBy waits header ⌝ }
+    ensures { λ r. ⌜ r ≡ wakesOpen waits header ⌝ }
 {
     let flags = header.flags;
     if flags.contains(ACK) { waits } else { false }
 }
 
-// The open's wait after the frame's ACK step.
-fn wait_after(waits: bool, header: Header) -> bool
-    ensures { λ r. ⌜ r ≡ waitAfter waits header ⌝ }
-{
-    let flags = header.flags;
-    if flags.contains(ACK) { false } else { waits }
-}
-
-pub(crate) fn show(c: Connection, table: &[u64], header: Header) -> View
-    ensures { λ r. ⌜ r ≡ viewAt c (now (table .entry)) header (r .found) ⌝ }
-    ensures { λ r. ⌜ Finds (now (table .entry)) (c .memory .slots) (header .«stream_id») (r .found) ⌝ }
+// What a Data frame or a WindowUpdate does, whose stream was found there.
+pub(crate) fn decide(
+    c: Connection,
+    table: &[u64],
+    found: Which,
+    header: Header,
+    time: u64,
+) -> Decided
+    ensures { λ r. ⌜ r ≡ decided c (now (table .entry)) found header time ⌝ }
 {
     let k = c.memory.slots;
-    let found = table::find(table, k, header.stream_id);
     let seen = look(table, k, found, header);
+    let known = seen.known;
+    let row = seen.row;
     let vacancy = vacancy(table, k, header);
     let limits = limits(c);
     let woke = woken(c.open_wait, header);
-    let open_wait = wait_after(c.open_wait, header);
-    View {
-        found,
-        seen,
-        vacancy,
-        limits,
-        woke,
-        open_wait,
-    }
+    let action = handlers::on_stream(limits, woke, known, vacancy, header, time);
+    Decided { row, action }
 }

@@ -29,8 +29,11 @@ abbrev pub changed : Entry → Stream → Bool → List ℕ → Entry
 changed e s listed b = record { held = true; listed = listed; stream = s; bytes = e .bytes ++ b }
 
 -- an open that the answer wakes waits no more
+abbrev pub waitsOn : Bool → Answer → Bool
+waitsOn waits o = cond (o .wakes .opener) false waits
+
 abbrev pub heard : Conn → Answer → Conn
-heard c o = withOpenWait c (cond (o .wakes .opener) false (c .openWait))
+heard c o = withOpenWait c (waitsOn (c .openWait) o)
 
 -- 7 and 8 undo the ACK step: what it left of the stream is not stored, and they wake no open
 unfoldable pub perform : Conn → List ℕ → Action → Result

@@ -1,4 +1,4 @@
--- `frames::on_ping` meets its contract: the pings alone change. Assumes nothing.
+-- `connection_frame::on_ping` meets its contract: the pings alone change. Assumes nothing.
 use borrow.Author.Needs.{needs}
 use Rattle.connection_frame.proofs.Orders.{ping-handles}
 use Rattle.connection_frame.proofs.on_ping.Statement.{statement}

@@ -1,7 +1,10 @@
--- `frames::on_type` meets its contract: each arm is its type's rule. Assumes nothing.
+-- `connection_frame::on_type` meets its contract: each arm is its type's rule. Assumes nothing.
 use borrow.Author.Needs.{needs}
+use mathlib.Core.Path.{refl, ap}
 use Rattle.frame.specs.declared.header.Tag.the-variants as tag
-use Rattle.connection_frame.proofs.Orders.{as-type, ping-type, go-away-type}
+use Rattle.rules.specs.Frames.{frameRules}
+use Rattle.handlers.specs.Perform.{ofStream}
+use Rattle.connection_frame.proofs.Orders.{as-type}
 use Rattle.connection_frame.proofs.on_type.Statement.{statement}
 use Rattle.connection_frame.proofs.on_type.Tie as tie
 
@@ -26,8 +29,8 @@ on-ping-requires c κs = search needs
 enum-told-4 : tie.Need-enum-told-4
 enum-told-4 c = search needs
 
-end-requires : tie.Need-end-requires
-end-requires c κs = search needs
+drop-all-streams-requires : tie.Need-drop-all-streams-requires
+drop-all-streams-requires c κs = search needs
 
 same-length : tie.Need-same-length
 same-length c = search needs
@@ -39,10 +42,7 @@ same-length-3 : tie.Need-same-length-3
 same-length-3 c = search needs
 
 returns : tie.Need-returns
-returns c =
-    let a = c .before .before .before .before .before .before .before .before .before .before .before .before .before .before .before .before .args in
-    let w = c .before .before .before .before .before .before .on-stream in
-    as-type (a .c) (a .table .now) (a .links .now) (a .pool .now) (a .header) (a .body .now) (a .time) (w .result) (w .last .1 .0) (w .last .1 .1 .0) (w .last .1 .1 .1 .0) tag.Data (a .header .tag) (c .before .before .before .before .before .before .before .before .before .before .enum-told .given .1) (w .ensures)
+returns c = c .before .before .before .before .before .before .on-stream .ensures (ap ofStream (c .before .before .before .before .before .before .before .before .before .before .enum-told .given .1))
 
 same-length-4 : tie.Need-same-length-4
 same-length-4 c = search needs
@@ -54,30 +54,28 @@ same-length-6 : tie.Need-same-length-6
 same-length-6 c = search needs
 
 returns-2 : tie.Need-returns-2
-returns-2 c =
-    let a = c .before .before .before .before .before .before .before .before .before .before .before .before .before .before .before .before .args in
-    let w = c .before .before .before .before .before .before .on-stream2 in
-    as-type (a .c) (a .table .now) (a .links .now) (a .pool .now) (a .header) (a .body .now) (a .time) (w .result) (w .last .1 .0) (w .last .1 .1 .0) (w .last .1 .1 .1 .0) tag.WindowUpdate (a .header .tag) (c .before .before .before .before .before .before .before .before .before .before .enum-told2 .given .1) (w .ensures)
+returns-2 c = c .before .before .before .before .before .before .on-stream2 .ensures (ap ofStream (c .before .before .before .before .before .before .before .before .before .before .enum-told2 .given .1))
 
 same-length-7 : tie.Need-same-length-7
 same-length-7 c = search needs
 
 returns-3 : tie.Need-returns-3
+unfolding frameRules
 returns-3 c =
     let a = c .before .before .before .before .before .before .before .before .args in
-    let w = c .on-ping in
-    as-type (a .c) (a .table .now) (a .links .now) (a .pool .now) (a .header) (a .body .now) (a .time) (w .result) (a .table .now) (a .links .now) (a .pool .now) tag.Ping (a .header .tag) (c .before .before .enum-told3 .given .1)
-    (ping-type (a .c) (a .table .now) (a .links .now) (a .pool .now) (a .header) (a .body .now) (a .time) (w .result) (w .ensures))
+    λ n. as-type (a .c) (a .table .now) (a .links .now) (a .pool .now) (a .header) (a .body .now) (a .time) (c .on-ping .result) (a .table .now) (a .links .now) (a .pool .now) tag.Ping (a .header .tag) (c .before .before .enum-told3 .given .1)
+    (c .on-ping .ensures (a .links .now) (a .pool .now))
 
 same-length-8 : tie.Need-same-length-8
 same-length-8 c = search needs
 
 returns-4 : tie.Need-returns-4
+unfolding frameRules
 returns-4 c =
     let a = c .before .before .before .before .before .before .before .before .before .before .args in
-    let w = c .before .before .end in
-    as-type (a .c) (a .table .now) (a .links .now) (a .pool .now) (a .header) (a .body .now) (a .time) (w .result) (w .last .1 .0) (a .links .now) (a .pool .now) tag.GoAway (a .header .tag) (c .before .before .before .before .enum-told4 .given .1)
-    (go-away-type (a .c) (a .table .now) (a .links .now) (a .pool .now) (a .header) (a .body .now) (a .time) (w .result) (w .last .1 .0) (w .ensures))
+    let w = c .before .before .drop-all-streams in
+    λ n. as-type (a .c) (a .table .now) (a .links .now) (a .pool .now) (a .header) (a .body .now) (a .time) (w .result) (w .last .1 .0) (a .links .now) (a .pool .now) tag.GoAway (a .header .tag) (c .before .before .before .before .enum-told4 .given .1)
+    (w .ensures (a .links .now) (a .pool .now) refl)
 
 pub on-type-spec : {M : Type 1} → statement M
 on-type-spec =
@@ -90,7 +88,7 @@ on-type-spec =
     enum-told-3
     on-ping-requires
     enum-told-4
-    end-requires
+    drop-all-streams-requires
     same-length
     same-length-2
     same-length-3

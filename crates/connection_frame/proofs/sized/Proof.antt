@@ -1,4 +1,4 @@
--- `frames::sized` meets its contract. Assumes nothing.
+-- `connection_frame::sized` meets its contract. Assumes nothing.
 use mathlib.Core.Path.{sym, _∙_}
 use borrow.Author.Needs.{needs}
 use Rattle.connection_frame.proofs.sized.Statement.{statement}

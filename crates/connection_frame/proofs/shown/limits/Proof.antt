@@ -1,4 +1,4 @@
--- `frames::shown::limits` meets its contract. Assumes nothing.
+-- `connection_frame::shown::limits` meets its contract. Assumes nothing.
 use borrow.Author.Needs.{needs}
 use Rattle.connection_frame.proofs.shown.limits.Statement.{statement}
 use Rattle.connection_frame.proofs.shown.limits.Tie as tie

@@ -1,4 +1,4 @@
--- `frames::shown::look` meets its contract. Assumes nothing.
+-- `connection_frame::shown::look` meets its contract. Assumes nothing.
 use borrow.Author.Needs.{needs}
 use Rattle.connection_frame.proofs.shown.look.Statement.{statement}
 use Rattle.connection_frame.proofs.shown.look.Tie as tie

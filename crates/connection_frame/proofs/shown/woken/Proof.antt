@@ -1,4 +1,4 @@
--- `frames::shown::woken` meets its contract. Assumes nothing.
+-- `connection_frame::shown::woken` meets its contract. Assumes nothing.
 use borrow.Author.Needs.{needs}
 use mathlib.Core.Path.{sym, _∙_}
 use Rattle.connection_frame.proofs.shown.woken.Statement.{statement}
