@@ -8,7 +8,7 @@ use Rattle.frame.specs.declared.header.Header.{Header}
 use Rattle.flow_control.specs.Windows.{top}
 use Rattle.stream.specs.Streams.{newInbound, closed}
 use Rattle.stream.specs.declared.Stream.{Stream}
-use Rattle.stream.specs.declared.Wakes.{Wakes}
+use Rattle.stream.specs.declared.StreamWakes.{StreamWakes}
 use Rattle.stream.specs.declared.Received.{Received}
 use Rattle.stream.specs.declared.Received.the-variants.{Taken, ProtocolError}
 use Rattle.rules.specs.Frames.{bodyLength}
@@ -43,7 +43,7 @@ picks Q true x y f g = f refl
 picks Q false x y f g = g refl
 
 -- a stream that takes a frame keeps its id
-receives : (h : Header) (s : Stream) (P : Received → Type 0) → P ProtocolError → ((t : Stream) (w : Wakes) → t .id ≡ s .id → P (Taken t w)) → P (receive s h)
+receives : (h : Header) (s : Stream) (P : Received → Type 0) → P ProtocolError → ((t : Stream) (w : StreamWakes) → t .id ≡ s .id → P (Taken t w)) → P (receive s h)
 unfolding receive
 receives h s P refused taken =
     picks P (isUpdate (h .tag)) _ _
