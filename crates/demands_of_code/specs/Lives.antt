@@ -80,7 +80,7 @@ Given =
 abbrev pub Room : Type 0
 Room =
     (c : Connection) (t l p : List ℕ) (h : ℕ → Heard) → Lives c t l p h →
-    c .config .limit ≤ c .config .pool →
+    c .config .limit ≤ c .memory .pool →
     (time : ℕ) (head body : List ℕ) →
     heldCount (slotsOf (c .memory) t l p) + one (wouldOpen (absOf c t l p) time head body) ≤ c .config .«max_num_streams» →
     (d : Done) (t′ l′ p′ : List ℕ) → Promised true c t l p (frame time head body) d t′ l′ p′ →

@@ -62,7 +62,7 @@ pub(crate) fn apply(
         }
         Kind::Drop { slot } => {
             let handle = slot_of(slot);
-            connection_drop::drop_handle(c, table, links, sent, handle, now)
+            connection_drop::on_drop_stream(c, table, links, sent, handle, now)
         }
         Kind::Gone => connection_write::peer_gone(c, table, now),
     }

@@ -110,8 +110,8 @@ enum-known-kind-5 c = search needs
 slot-of-requires-4 : tie.Need-slot-of-requires-4
 slot-of-requires-4 c κs = search needs
 
-drop-handle-requires : tie.Need-drop-handle-requires
-drop-handle-requires c κs = search needs
+on-drop-stream-requires : tie.Need-on-drop-stream-requires
+on-drop-stream-requires c κs = search needs
 
 enum-told-3 : tie.Need-enum-told-3
 enum-told-3 c = search needs
@@ -226,7 +226,7 @@ same-length-21 c = search needs
 returns-7 : tie.Need-returns-7
 returns-7 c =
     let a = c .before .before .before .before .before .before .before .before .before .before .before .before .before .before .before .before .before .before .before .before .args in
-    let k = c .before .before .before .before .before .before .drop-handle in
+    let k = c .before .before .before .before .before .before .on-drop-stream in
     let e = rw (c .before .before .before .before .before .before .before .before .before .before .slot-of4 .ensures) at (k .ensures .0 (a .pool .now)) in
     drop-applies (a .c) (a .table .now) (a .links .now) (a .pool .now) (a .sent .now) (a .src .now) (a .event) (k .result) _ _ _ _ _ _ (c .before .before .before .before .before .before .before .before .before .before .before .before .kind5 .given .1) e (k .ensures .1 .header)
 
@@ -271,7 +271,7 @@ apply-spec =
     close-requires
     enum-known-kind-5
     slot-of-requires-4
-    drop-handle-requires
+    on-drop-stream-requires
     enum-told-3
     peer-gone-requires
     same-length
