@@ -91,7 +91,7 @@ pub(crate) fn apply(
         }
         Event::Drop { now, slot, next: _ } => {
             let handle = slot_of(slot);
-            connection_drop::drop_handle(c, table, links, sent, handle, now)
+            connection_drop::on_drop_stream(c, table, links, sent, handle, now)
         }
         Event::Gone { now, next: _ } => connection_write::peer_gone(c, table, now),
         _ => carry(c, table, links, pool, sent, bytes, src, event),
