@@ -1,21 +1,23 @@
 -- What a call tests before its rules is what the rules test: the sizes, the time, whether the connection has ended, and the handle. Assumes nothing.
 use mathlib.Core.Path.{_≡_, refl, sym, ap, _∙_}
 use mathlib.Core.Bool.{Bool, true, false, cond}
-use mathlib.Core.List.{List}
+use mathlib.Core.List.{List, []}
 use Prim.Native.Nat.{ℕ, _<_}
 use native.Mathlib.Omega.{arith}
 use borrow.Author.Tests.{leb-true, leb-false}
 use lib.Dec.{ltb, leb}
+use Rattle.chunks.specs.Store.{content}
 use Rattle.rules.specs.Settings.{lastTime}
 use Rattle.rules.specs.State.{Entry, Conn, entry}
-use Rattle.rules.specs.Step.{Call, step, timed, holding}
+use Rattle.rules.specs.Step.{Call, tick, step, timed, holding}
 use Rattle.rules.specs.Ending.{Result, refuse}
 use Rattle.rules.specs.declared.Reply.{Reply}
 use Rattle.rules.specs.declared.Reply.the-variants as reply
 use Rattle.table.specs.Table.{rowAt}
 use Rattle.table.specs.declared.row.Row.{Row}
+use Rattle.memory.specs.Moves as memory
 use Rattle.memory.specs.Slots.{slotsOf}
-use Rattle.memory.proofs.Laws.{entry-held, entry-beyond}
+use Rattle.memory.proofs.Laws.{entry-held, entry-of-held, entry-beyond}
 use Rattle.connection.specs.Abstract.{absOf, Valid}
 use Rattle.connection.specs.Parts.{gateOf, heldIn, behind, handleOf, Holds}
 use Rattle.connection.specs.Promises.{refused, Promised}
@@ -110,3 +112,13 @@ module _ (c : Connection) (t l p : List ℕ) (sized : Bool) (call : Call) (now i
           let o = gate-open sized false now eg in
           let w = is-held row h in
           (o .0, w .0, λ v. o .1 b (holding b i next) ∙ w .1 v)
+
+-- a handle that is given stands for a held slot
+pub handle-holds : (c : Connection) (t : List ℕ) (sized : Bool) (i now : ℕ) (row : Row) → handleOf sized (c .memory .slots) t i now ≡ Held row → Holds c t i row
+handle-holds c t sized i now row e = handle-held c t [] [] sized (tick now) now i (refuse (absOf c t [] []) reply.Size) row e .1
+
+-- what a held slot holds
+pub held-entry : (c : Connection) (t l p : List ℕ) (i : ℕ) (row : Row) → Holds c t i row → Valid c t l p
+    → entry (slotsOf (c .memory) t l p) i ≡ memory.held (row .stream) (row .listed) (content l p (row .queue))
+held-entry c t l p i row h v =
+    rw (h .loaded) (entry-of-held (c .memory) t l p (v .memory) i (h .below) (sym (ap (λ (r : Row). r .held) (h .loaded)) ∙ h .held))

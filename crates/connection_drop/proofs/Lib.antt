@@ -1,3 +1,2 @@
 -- Laws that the proofs of the drop share.
 pub mod Dropping
-pub mod Promises

@@ -1,4 +1,3 @@
 -- Laws that the proofs of the calls share.
-pub mod Locals
 pub mod Handles
 pub mod Writes

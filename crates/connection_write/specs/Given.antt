@@ -1,6 +1,6 @@
 -- The sizes that a call tests, and the body of a write.
 use mathlib.Core.Path.{_≡_}
-use mathlib.Core.Bool.{Bool, true, false, cond}
+use mathlib.Core.Bool.{Bool, true, _&&_}
 use mathlib.Core.List.{List}
 use Prim.Native.Nat.{ℕ}
 use lib.Dec.{eqb}
@@ -13,7 +13,7 @@ use Rattle.connection.specs.declared.Done.{Done}
 
 -- whether neither is 01's "a lent table .. or header of the wrong size", where these two are lent
 abbrev pub sentSized : Connection → ℕ → ℕ → Bool
-sentSized c n s = cond (tableFits (c .memory .slots) n) (eqb s 12) false
+sentSized c n s = tableFits (c .memory .slots) n && eqb s 12
 
 -- 01: "a Data frame carries the first n bytes": from a valid state the rule's body is the first bytes of `given`, as many as the
 -- header given counts

@@ -1,7 +1,7 @@
 -- Performing the actions of local calls is what the rules of calls say. Assumes nothing.
 use mathlib.Core.Path.{_≡_, refl}
 use mathlib.Core.Bool.{Bool, true, false, cond}
-use mathlib.Core.List.{List, [], append-nil}
+use mathlib.Core.List.{List, []}
 use Prim.Native.Nat.{ℕ, _+_, min}
 use lib.ListN.{length}
 use lib.Dec.{eqb, ltb, leb}
@@ -10,7 +10,7 @@ use Rattle.rtt.specs.Pings.{nextPing}
 use Rattle.rtt.specs.declared.Rtt.{Rtt}
 use Rattle.rtt.specs.declared.NextPing.{NextPing}
 use Rattle.rtt.specs.declared.NextPing.the-variants as ask
-use Rattle.flow_control.specs.Windows.{top, growthReturned}
+use Rattle.flow_control.specs.Windows.{top}
 use Rattle.stream.specs.States.{canRead}
 use Rattle.stream.specs.Streams as stream
 use Rattle.stream.specs.declared.Stream.{Stream}
@@ -20,35 +20,32 @@ use Rattle.stream.specs.declared.ReadEnd.the-variants as reading
 use Rattle.stream.specs.declared.Written.{Written}
 use Rattle.stream.specs.declared.Written.the-variants as written
 use Rattle.rules.specs.Lists.{Place, at, nowhere}
-use Rattle.rules.specs.State.{Entry, Conn, entry, find, withPings, withGrowth, lowestFree, listedCount, unacknowledged, foundOf}
+use Rattle.rules.specs.State.{Entry, Conn, entry, withPings, lowestFree, listedCount, unacknowledged, foundOf}
 use Rattle.rules.specs.Ending.{gives}
-use Rattle.rules.specs.Calls.{openAt, open-rules, readRest, readWith, windowStep, readRules, writeWith, writeRules, closeRules, dropAt, dropRules, pingOut, tickRules}
-use Rattle.handlers.specs.Perform.{outcomeOf, perform}
-use Rattle.handlers.specs.Locals.{writeAction, onWrite, carrying, onClose, openIn, openWith, openAction, performOpen, isShut, nothingRead, readEnded, onRead, performRead, onDrop, tableAt, freed, pingSent, onTick}
-use Rattle.handlers.proofs.Rules.{ListedHeld, both, livesAt, find-lives, heardBy}
+use Rattle.rules.specs.Calls.{openAt, open-rules, readRest, readWith, windowStep, readRules, writeWith, writeRules, closeRules, pingOut, tickRules}
+use Rattle.handlers.specs.Perform.{outcomeOf}
+use Rattle.handlers.specs.Locals.{performStep, writeStep, onWrite, performWrite, onClose, openIn, openWith, openAction, performOpen, isShut, nothingRead, readEnded, onRead, performRead, pingSent, onTick}
+use Rattle.handlers.proofs.Rules.{both, heardBy}
 
 -- ---- write and close
 
-module _ (c : Conn) (i : ℕ) (held : entry (c .slots) i .held ≡ true) where
-  write-with : (given : List ℕ) (w : Written) →
-      writeWith c i (entry (c .slots) i) given w ≡ carrying given (perform c [] (writeAction (record { 0 = i }) (entry (c .slots) i .listed) w))
-  unfolding writeWith carrying perform
+module _ (c : Conn) (i : ℕ) where
+  write-with : (given : List ℕ) (w : Written) → writeWith c i (entry (c .slots) i) given w ≡ performWrite c i given (writeStep (record { 0 = i }) w)
+  unfolding writeWith performStep
   write-with given written.Closed = refl
-  write-with given (written.Wait s) = rw (held, append-nil)
-  write-with given (written.Frame s h) = rw (held, append-nil)
+  write-with given (written.Wait s) = refl
+  write-with given (written.Frame s h) = refl
 
   pub write-performs : (given : List ℕ) →
       writeRules c i (entry (c .slots) i) given
-      ≡ carrying given (perform c [] (onWrite (c .ended) (record { 0 = i }) (entry (c .slots) i .stream) (entry (c .slots) i .listed) (length given) (c .config .split)))
-  unfolding writeRules onWrite carrying perform
+      ≡ performWrite c i given (onWrite (c .ended) (record { 0 = i }) (entry (c .slots) i .stream) (length given) (c .config .split))
+  unfolding writeRules
   write-performs given =
-      both (λ x. carrying given (perform c [] x)) (c .ended) refl
-      (write-with given (stream.write (entry (c .slots) i .stream) (length given) (c .config .split)))
+      both (performWrite c i given) (c .ended) refl (write-with given (stream.write (entry (c .slots) i .stream) (length given) (c .config .split)))
 
-  pub close-performs :
-      closeRules c i (entry (c .slots) i) ≡ perform c [] (onClose (record { 0 = i }) (entry (c .slots) i .stream) (entry (c .slots) i .listed))
-  unfolding closeRules onClose perform
-  close-performs = rw (held, append-nil)
+  pub close-performs : closeRules c i (entry (c .slots) i) ≡ performStep c i [] (onClose (record { 0 = i }) (entry (c .slots) i .stream))
+  unfolding closeRules performStep
+  close-performs = refl
 
 -- ---- open
 
@@ -101,23 +98,6 @@ pub read-performs : (c : Conn) (i : ℕ) (e : Entry) (asked now : ℕ) →
     (performRead c (record { 0 = i }) e (onRead (record { 0 = i }) (windowStep c e now) (length (e .bytes)) asked))
 unfolding readRules
 read-performs c i e asked now = rw (shut (c .ended) (c .config .«read_after_close»), read-with c i e (windowStep c e now) asked)
-
--- ---- drop
-
-module _ (c : Conn) (i : ℕ) (e : Entry) where
-  -- the connection with the growth of the handle returned
-  abbrev pub returned : Conn
-  returned = withGrowth c (growthReturned (c .growth) (e .stream .flow))
-
-  drop-at : (p : Place) → livesAt c p → dropAt p returned i ≡ freed i (perform returned [] (onDrop (record { 0 = i }) (tableAt c p)))
-  unfolding dropAt freed perform onDrop
-  drop-at nowhere l = refl
-  drop-at (at j) l = rw (l .1, append-nil)
-
-  pub drop-performs : ListedHeld c →
-      dropRules c i e ≡ freed i (perform returned [] (onDrop (record { 0 = i }) (tableAt c (find (c .slots) (e .stream .id)))))
-  unfolding dropRules
-  drop-performs held = drop-at (find (c .slots) (e .stream .id)) (find-lives c (e .stream .id) held)
 
 -- ---- tick
 

@@ -19,9 +19,8 @@ use Rattle.stream.specs.declared.Written.{Written}
 use Rattle.stream.specs.declared.Written.the-variants as written
 use Rattle.stream.specs.declared.Sent.{Sent}
 use Rattle.stream.specs.declared.Sent.the-variants.{Frame, Nothing}
-use Rattle.rules.specs.Lists.{Place, at, nowhere}
 use Rattle.rules.specs.Replies.{noWakes, bare}
-use Rattle.rules.specs.State.{Entry, Conn, entry, vacant, withSlot, withGrowth, withNextId, withOpenWait}
+use Rattle.rules.specs.State.{Entry, Conn, entry, withSlot, withGrowth, withNextId, withOpenWait, withStream}
 use Rattle.rules.specs.Ending.{Result, gives, refuse, end}
 use Rattle.rules.specs.Frames.{quiet, newEntry}
 use Rattle.rules.specs.Calls.{readEntry}
@@ -33,11 +32,10 @@ use Rattle.rules.specs.declared.Value.{Value}
 use Rattle.rules.specs.declared.Value.the-variants as value
 use Rattle.handlers.specs.Actions.{done, noAction}
 use Rattle.handlers.specs.declared.Answer.{Answer}
-use Rattle.handlers.specs.declared.Known.{Known}
-use Rattle.handlers.specs.declared.Known.the-variants as known
 use Rattle.rules.specs.declared.Which.{Which}
-use Rattle.handlers.specs.declared.Action.{Action}
-use Rattle.handlers.specs.declared.Action.the-variants as action
+use Rattle.handlers.specs.declared.calls.StreamStep.{StreamStep}
+use Rattle.handlers.specs.declared.calls.WriteStep.{WriteStep}
+use Rattle.handlers.specs.declared.calls.WriteStep.the-variants as wrote
 use Rattle.handlers.specs.declared.PingStep.{PingStep}
 use Rattle.handlers.specs.declared.NextId.{NextId}
 use Rattle.handlers.specs.declared.NextId.the-variants as next
@@ -49,41 +47,46 @@ use Rattle.handlers.specs.declared.ReadStep.{ReadStep}
 abbrev pub slotAnswer : Slot → Reply → Value → Sent → Answer
 slotAnswer i r v h = record { reply = r; slot = which.At i; value = v; sent = h; wakes = noWakes }
 
+-- the stream of a step at slot i, which stays in the table if it was there, and the step's answer, with this body to its header
+unfoldable pub performStep : Conn → ℕ → List ℕ → StreamStep → Result
+performStep c i body k =
+    gives
+    (record {
+      reply = k .answer .reply;
+      slot = k .answer .slot;
+      value = k .answer .value;
+      header = k .answer .sent;
+      body = body;
+      wakes = k .answer .wakes;
+      bytes = [];
+    })
+    (withSlot c i (withStream (entry (c .slots) i) (k .stream)))
+
 -- ---- write
 
-abbrev pub writeAction : Slot → Bool → Written → Action
-writeAction i listed written.Closed = action.Refuse reply.WriteClosed
-writeAction i listed (written.Wait s) = action.Store i s listed (slotAnswer i reply.Wait value.None Nothing)
-writeAction i listed (written.Frame s h) = action.Store i s listed (slotAnswer i reply.Done (value.Of (h .length .0)) (Frame h))
+abbrev pub writeStep : Slot → Written → WriteStep
+writeStep i written.Closed = wrote.Closed
+writeStep i (written.Wait s) = wrote.Kept (record { stream = s; answer = slotAnswer i reply.Wait value.None Nothing })
+writeStep i (written.Frame s h) = wrote.Kept (record { stream = s; answer = slotAnswer i reply.Done (value.Of (h .length .0)) (Frame h) })
 
 -- "Write: connection ended, or state SendClosed or Closed, 6; send window 0, wait; else .."
-unfoldable pub onWrite : Bool → Slot → Stream → Bool → ℕ → ℕ → Action
-onWrite ended i s listed given split = cond ended (action.Refuse reply.WriteClosed) (writeAction i listed (stream.write s given split))
+abbrev pub onWrite : Bool → Slot → Stream → ℕ → ℕ → WriteStep
+onWrite ended i s given split = cond ended wrote.Closed (writeStep i (stream.write s given split))
 
 -- "a Data frame carries the first n bytes": those that the header's length counts
 abbrev pub bodyOf : Sent → List ℕ → List ℕ
 bodyOf Nothing given = []
 bodyOf (Frame h) given = take (h .length .0) given
 
-unfoldable pub carrying : List ℕ → Result → Result
-carrying given r = record {
-  outcome = record {
-    reply = r .outcome .reply;
-    slot = r .outcome .slot;
-    value = r .outcome .value;
-    header = r .outcome .header;
-    body = bodyOf (r .outcome .header) given;
-    wakes = r .outcome .wakes;
-    bytes = r .outcome .bytes;
-  };
-  after = r .after;
-}
+abbrev pub performWrite : Conn → ℕ → List ℕ → WriteStep → Result
+performWrite c i given wrote.Closed = refuse c reply.WriteClosed
+performWrite c i given (wrote.Kept k) = performStep c i (bodyOf (k .answer .sent) given) k
 
 -- ---- close
 
 -- "Close: Closed, done without a frame. Else FIN .."
-unfoldable pub onClose : Slot → Stream → Bool → Action
-onClose i s listed = action.Store i (stream.close s .stream) listed (slotAnswer i reply.Done value.None (stream.close s .sent))
+abbrev pub onClose : Slot → Stream → StreamStep
+onClose i s = record { stream = stream.close s .stream; answer = slotAnswer i reply.Done value.None (stream.close s .sent) }
 
 -- ---- open
 
@@ -150,20 +153,12 @@ performRead c i e r =
 
 -- ---- drop
 
--- "removes from the table whichever stream has that id, making it Closed": the stream found is `known`, the handle's slot i
-unfoldable pub onDrop : Slot → Known → Action
-onDrop i known.Nowhere = action.Answer (slotAnswer i reply.Done value.None Nothing)
-onDrop i (known.At j s) =
-    action.Store j (stream.dropped s .stream) false (done false (which.At i) value.None (stream.dropped s .sent) (stream.dropped s .wakes))
-
--- the stream in the table at a place, as it is
-abbrev pub tableAt : Conn → Place → Known
-tableAt c nowhere = known.Nowhere
-tableAt c (at i) = known.At (record { 0 = i }) (entry (c .slots) i .stream)
-
--- "frees the slot"
-unfoldable pub freed : ℕ → Result → Result
-freed i r = record { outcome = r .outcome; after = withSlot (r .after) i vacant }
+-- "removes from the table whichever stream has that id, making it Closed": s is that stream, and i the handle's slot
+abbrev pub onDrop : Slot → Stream → StreamStep
+onDrop i s = record {
+  stream = stream.dropped s .stream;
+  answer = done false (which.At i) value.None (stream.dropped s .sent) (stream.dropped s .wakes);
+}
 
 -- ---- tick
 

@@ -1,8 +1,7 @@
 // Write, close, drop and tick.
 ghost use mathlib.Core.Path.{_≡_};
-ghost use Rattle.handlers.specs.Locals.{writeAction, onWrite, onClose, onDrop, pingSent, onTick};
-use crate::Action;
-use crate::Known;
+ghost use Rattle.handlers.specs.Locals.{writeStep, onWrite, onClose, onDrop, pingSent, onTick};
+use crate::Answer;
 use crate::PingStep;
 use crate::answers;
 use rtt::NextPing;
@@ -16,66 +15,68 @@ use stream::Stream;
 use stream::StreamWakes;
 use stream::Written;
 
-fn write_action(slot: Slot, listed: bool, written: Written) -> Action
-    ensures { λ r. ⌜ r ≡ writeAction slot listed written ⌝ }
+// What a call leaves of the handle's stream, which is in the table if it was, and what the call answers.
+pub struct StreamStep {
+    pub stream: Stream,
+    pub answer: Answer,
+}
+
+// What a write does.
+pub enum WriteStep {
+    // Nothing: the stream, or the connection, is closed for writing.
+    Closed,
+    Kept(StreamStep),
+}
+
+fn write_step(slot: Slot, written: Written) -> WriteStep
+    ensures { λ r. ⌜ r ≡ writeStep slot written ⌝ }
 {
     match written {
-        Written::Closed => Action::Refuse(Reply::WriteClosed),
+        Written::Closed => WriteStep::Closed,
         Written::Wait(stream) => {
             let answer = answers::at_slot(slot, Reply::Wait, Value::None, Sent::Nothing);
-            Action::Store(slot, stream, listed, answer)
+            WriteStep::Kept(StreamStep { stream, answer })
         }
         Written::Frame(stream, header) => {
             let n = header.length.0;
             let answer = answers::at_slot(slot, Reply::Done, Value::Of(n), Sent::Frame(header));
-            Action::Store(slot, stream, listed, answer)
+            WriteStep::Kept(StreamStep { stream, answer })
         }
     }
 }
 
 // What a write of so many bytes does; the header's length says how many of them go out.
-pub fn on_write(
-    ended: bool,
-    slot: Slot,
-    stream: Stream,
-    listed: bool,
-    given: usize,
-    split: u32,
-) -> Action
-    ensures { λ r. ⌜ r ≡ onWrite ended slot stream listed given split ⌝ }
+pub fn on_write(ended: bool, slot: Slot, stream: Stream, given: usize, split: u32) -> WriteStep
+    ensures { λ r. ⌜ r ≡ onWrite ended slot stream given split ⌝ }
 {
     if ended {
-        return Action::Refuse(Reply::WriteClosed);
+        return WriteStep::Closed;
     }
     let written = stream.write(given, split);
-    write_action(slot, listed, written)
+    write_step(slot, written)
 }
 
-// What a close does; the stream stays in the table if it is there.
-pub fn on_close(slot: Slot, stream: Stream, listed: bool) -> Action
-    ensures { λ r. ⌜ r ≡ onClose slot stream listed ⌝ }
+// What a close does.
+pub fn on_close(slot: Slot, stream: Stream) -> StreamStep
+    ensures { λ r. ⌜ r ≡ onClose slot stream ⌝ }
 {
     let closing = stream.close();
-    let closed = closing.stream;
+    let stream = closing.stream;
     let sent = closing.sent;
     let answer = answers::at_slot(slot, Reply::Done, Value::None, sent);
-    Action::Store(slot, closed, listed, answer)
+    StreamStep { stream, answer }
 }
 
 // What a drop does to the stream in the table that has the handle's id.
-pub fn on_drop(slot: Slot, known: Known) -> Action
-    ensures { λ r. ⌜ r ≡ onDrop slot known ⌝ }
+pub fn on_drop(slot: Slot, stream: Stream) -> StreamStep
+    ensures { λ r. ⌜ r ≡ onDrop slot stream ⌝ }
 {
-    let Known::At(found, stream) = known else {
-        let answer = answers::at_slot(slot, Reply::Done, Value::None, Sent::Nothing);
-        return Action::Answer(answer);
-    };
     let dropped = stream.drop();
-    let closed = dropped.stream;
+    let stream = dropped.stream;
     let sent = dropped.sent;
     let wakes = dropped.wakes;
     let answer = answers::done(false, Which::At(slot), Value::None, sent, wakes);
-    Action::Store(found, closed, false, answer)
+    StreamStep { stream, answer }
 }
 
 fn ping_sent(rtt: Rtt, ping: NextPing) -> PingStep

@@ -14,7 +14,7 @@ use Rattle.rules.specs.State.{Entry, entry}
 use Rattle.table.specs.Table.{rowAt, view}
 use Rattle.table.specs.declared.row.Row.{Row}
 use Rattle.table.proofs.Laws.{nth-view}
-use Rattle.memory.specs.Moves.{startOf, Advances, Moved}
+use Rattle.memory.specs.Moves.{startOf, Advances, Becomes, Moved}
 use Rattle.memory.specs.Slots.{queues, slotsOf, Valid}
 use Rattle.memory.specs.declared.Memory.{Memory}
 use Rattle.memory.proofs.Lists.{nth-queues}
@@ -58,12 +58,13 @@ module _ (m : Memory) (t l p : List ℕ) (v : Valid m t l p) where
 
 -- ---- one change after another
 
-bytes-kept : (es : List Entry) (j : ℕ) (e : Entry) → e .bytes ≡ entry es j .bytes → (i : ℕ) → entry (set es j e) i .bytes ≡ entry es i .bytes
-bytes-kept [] j e q i = refl
-bytes-kept (x ∷ es) zero e q zero = q
-bytes-kept (x ∷ es) zero e q (suc i) = refl
-bytes-kept (x ∷ es) (suc j) e q zero = refl
-bytes-kept (x ∷ es) (suc j) e q (suc i) = bytes-kept es j e q i
+-- a part that one entry's change leaves as it was
+pub part-kept : {A : Type 0} (part : Entry → A) (es : List Entry) (j : ℕ) (e : Entry) → part e ≡ part (entry es j) → (i : ℕ) → part (entry (set es j e) i) ≡ part (entry es i)
+part-kept part [] j e q i = refl
+part-kept part (x ∷ es) zero e q zero = q
+part-kept part (x ∷ es) zero e q (suc i) = refl
+part-kept part (x ∷ es) (suc j) e q zero = refl
+part-kept part (x ∷ es) (suc j) e q (suc i) = part-kept part es j e q i
 
 -- the first of a slot whose bytes stay
 module _ (m : Memory) (t l p : List ℕ) (v : Valid m t l p) (j : ℕ) (e : Entry) (m₁ : Memory) (t₁ : List ℕ) (w : Moved m t l p j e m₁ t₁ l p) (kept : e .bytes ≡ entry (slotsOf m t l p) j .bytes) where
@@ -71,10 +72,10 @@ module _ (m : Memory) (t l p : List ℕ) (v : Valid m t l p) (j : ℕ) (e : Entr
   unread-kept i h h₁ =
       sym (entry-unread m₁ t₁ l p (w .valid) i h₁)
       ∙ ap (λ (es : List Entry). length (entry es i .bytes)) (w .slots)
-      ∙ ap length (bytes-kept (slotsOf m t l p) j e kept i)
+      ∙ ap length (part-kept (λ (x : Entry). x .bytes) (slotsOf m t l p) j e kept i)
       ∙ entry-unread m t l p v i h
 
-  pub then-advances : (m₂ : Memory) (t₂ : List ℕ) → m₂ .slots ≡ m₁ .slots → Advances m₁ t₁ m₂ t₂ → Advances m t m₂ t₂
+  then-advances : (m₂ : Memory) (t₂ : List ℕ) → m₂ .slots ≡ m₁ .slots → Advances m₁ t₁ m₂ t₂ → Advances m t m₂ t₂
   then-advances m₂ t₂ same a i h₂ =
       let h₁ : i < m₁ .slots = omega (arith, same) in
       let h : i < m .slots = omega (arith, w .same .0) in
@@ -83,3 +84,11 @@ module _ (m : Memory) (t l p : List ℕ) (v : Valid m t l p) (j : ℕ) (e : Entr
       let f : rowAt t₁ (m₁ .slots) i .queue .from ≡ old .from =
       w .advances i h₁ ∙ ap (λ (x : ℕ). startOf (old .from) (old .unread) x) n ∙ sym (nothing-advances m t l p v i h) in
       a i h₂ ∙ rw (n, f)
+
+  pub then-becomes : (m₂ : Memory) (es : List Entry) (t₂ l₂ p₂ : List ℕ) → Becomes m₁ t₁ es m₂ t₂ l₂ p₂ → Becomes m t es m₂ t₂ l₂ p₂
+  then-becomes m₂ es t₂ l₂ p₂ b = record {
+    valid = b .valid;
+    slots = b .slots;
+    same = (b .same .0 ∙ w .same .0, b .same .1 ∙ w .same .1);
+    advances = then-advances m₂ t₂ (b .same .0) (b .advances);
+  }

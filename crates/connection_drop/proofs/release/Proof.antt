@@ -1,7 +1,6 @@
--- `dropping::release` meets its contract: each return is what the definition gives by the tests that led there. Assumes nothing.
-use mathlib.Core.Path.{_∙_}
-use Rattle.connection_drop.proofs.Dropping.{removed-done, released-follows}
+-- `connection_drop::release` meets its contract: the growth is given back, the stream removed, and the slot freed. Assumes nothing.
 use borrow.Author.Needs.{needs}
+use Rattle.connection_drop.proofs.Dropping.{release-handles}
 use Rattle.connection_drop.proofs.release.Statement.{statement}
 use Rattle.connection_drop.proofs.release.Tie as tie
 
@@ -20,29 +19,21 @@ load-requires c κs = search needs
 free-requires : tie.Need-free-requires
 free-requires c κs = search needs
 
-released-requires : tie.Need-released-requires
-released-requires c κs = search needs
-
 same-length : tie.Need-same-length
-same-length c = c .before .before .before .before .before .free .kept .1 .0 ∙ c .before .before .before .before .before .before .before .before .before .before .before .before .before .before .remove .kept .1 .0
+same-length c = search needs
 
 same-length-2 : tie.Need-same-length-2
 same-length-2 c = search needs
 
 returns : tie.Need-returns
 returns c =
-    let a = c .before .before .before .before .before .before .before .before .before .before .before .before .before .before .before .before .before .before .before .before .before .before .before .args in
-    let d = c .before .before .before .before .before .before .before .before .before .before .before .before .before .before .before .before .find in
-    let r = c .before .before .before .before .before .before .before .before .before .before .before .before .before .before .remove in
-    let f = c .before .before .before .before .before .free in
-    rw (c .released .ensures, c .before .before .before .before .before .before .before .before .before .before .before .before .before .before .before .before .before .before .growth-returned .ensures)
-    (record {
-      done = removed-done (a .c .memory) (a .table .now) (a .slot) (d .result) (r .result) (r .last .1 .0) (r .ensures);
-      follows = λ p e v b h.
-          rw e
-          (released-follows (a .c) (a .table .now) (a .links .now) p v (a .slot) b (rw e at h) (r .result) (r .last .1 .0) (f .result) (f .last .1 .0) (f .last .1 .1 .0)
-          (rw (c .before .before .before .before .before .before .before .before .load .ensures) at (f .ensures)) (d .result) (rw e at (d .ensures)) (r .ensures));
-    })
+    let a = c .before .before .before .before .before .before .before .before .before .before .before .before .before .before .before .before .before .before .before .before .before .before .before .before .args in
+    let d = c .before .before .before .before .before .before .before .before .before .before .before .before .before .before .before .before .before .find in
+    let r = c .before .before .before .before .before .before .before .before .before .before .before .before .before .before .before .remove in
+    let f = c .before .before .before .before .before .before .free in
+    rw (c .before .before .before .before .before .before .before .before .before .before .before .before .before .before .before .before .before .before .before .growth-returned .ensures)
+    (release-handles (a .c) (a .table .now) (a .links .now) (a .slot) (a .row) (r .result) (r .last .1 .0) (f .result) (f .last .1 .0) (f .last .1 .1 .0)
+    (rw (c .before .before .before .before .before .before .before .before .before .load .ensures) at (f .ensures)) (d .result) (d .ensures) (r .ensures))
 
 pub release-spec : {M : Type 1} → statement M
 release-spec =
@@ -53,7 +44,6 @@ release-spec =
     remove-requires
     load-requires
     free-requires
-    released-requires
     same-length
     same-length-2
     returns)

@@ -1,5 +1,7 @@
--- `dropping::remove` meets its contract. Assumes nothing.
+-- `connection_drop::remove` meets its contract. Assumes nothing.
+use mathlib.Core.Path.{refl, ap}
 use borrow.Author.Needs.{needs}
+use Rattle.handlers.specs.declared.calls.StreamStep.{StreamStep}
 use Rattle.connection_drop.proofs.remove.Statement.{statement}
 use Rattle.connection_drop.proofs.remove.Tie as tie
 
@@ -9,40 +11,30 @@ enum-known-found c = search needs
 enum-told : tie.Need-enum-told
 enum-told c = search needs
 
-blank-requires : tie.Need-blank-requires
-blank-requires c κs = search needs
-
-on-drop-requires : tie.Need-on-drop-requires
-on-drop-requires c κs = search needs
-
-take-requires : tie.Need-take-requires
-take-requires c κs = search needs
-
-same-length : tie.Need-same-length
-same-length c = search needs
+bare-requires : tie.Need-bare-requires
+bare-requires c κs = search needs
 
 returns : tie.Need-returns
-returns c =
-    let b = c .before .before .before .before .before in
-    rw (b .before .enum-told .given .1) (rw (b .blank .ensures, c .before .before .before .before .on-drop .ensures) at (c .before .before .take .ensures))
+returns c = rw (c .before .before .enum-told .given .1, c .before .bare .ensures) (refl, refl)
 
 load-requires : tie.Need-load-requires
 load-requires c κs = search needs
 
-on-drop-requires-2 : tie.Need-on-drop-requires-2
-on-drop-requires-2 c κs = search needs
+on-drop-requires : tie.Need-on-drop-requires
+on-drop-requires c κs = search needs
 
-take-requires-2 : tie.Need-take-requires-2
-take-requires-2 c κs = search needs
+store-requires : tie.Need-store-requires
+store-requires c κs = search needs
 
-same-length-2 : tie.Need-same-length-2
-same-length-2 c = search needs
+same-length : tie.Need-same-length
+same-length c = search needs
 
 returns-2 : tie.Need-returns-2
 returns-2 c =
-    let d = c .before .before .before .before in
-    let f = d .before .before in
-    rw (f .before .before .before .found .given .1) (rw (d .on-drop2 .ensures, f .load .ensures) at (c .before .before .take2 .ensures))
+    let l = c .before .before .before .before .before .before .before .before .load in
+    let d = c .before .before .before .before .before .before .on-drop in
+    rw (c .before .before .before .before .before .before .before .before .before .before .before .found .given .1)
+    (rw (l .ensures) at (ap (λ (k : StreamStep). k .answer) (d .ensures)), rw (d .ensures, l .ensures) at (c .before .before .store .ensures))
 
 pub remove-spec : {M : Type 1} → statement M
 remove-spec =
@@ -50,13 +42,10 @@ remove-spec =
     (tie.spec
     enum-known-found
     enum-told
-    blank-requires
-    on-drop-requires
-    take-requires
-    same-length
+    bare-requires
     returns
     load-requires
-    on-drop-requires-2
-    take-requires-2
-    same-length-2
+    on-drop-requires
+    store-requires
+    same-length
     returns-2)

@@ -1,31 +1,33 @@
--- `calls::keep` meets its contract. Assumes nothing.
-use mathlib.Core.Path.{refl}
+-- `connection_write::keep` meets its contract: the header is put, and the stream put back. Assumes nothing.
+use mathlib.Core.Path.{sym, _∙_}
 use borrow.Author.Needs.{needs}
-use Rattle.connection_write.proofs.Locals.{keep-follows}
+use Rattle.handlers.specs.Locals.{performStep}
+use Rattle.memory.proofs.Laws.{never}
+use Rattle.connection.proofs.Promises.{acted}
+use Rattle.connection_write.proofs.Handles.{step-follows}
 use Rattle.connection_write.proofs.keep.Statement.{statement}
 use Rattle.connection_write.proofs.keep.Tie as tie
+
+put-requires : tie.Need-put-requires
+put-requires c κs = search needs
 
 store-requires : tie.Need-store-requires
 store-requires c κs = search needs
 
-with-memory-requires : tie.Need-with-memory-requires
-with-memory-requires c κs = search needs
-
-answered-requires : tie.Need-answered-requires
-answered-requires c κs = search needs
-
 same-length : tie.Need-same-length
 same-length c = search needs
 
+same-length-2 : tie.Need-same-length-2
+same-length-2 c = search needs
+
 returns : tie.Need-returns
-returns c =
-    let a = c .before .before .before .before .before .before .before .args in
-    let e = c .before .before .before .before .store in
-    rw (c .answered .ensures, c .before .with-memory .ensures) (record {
-      answer = refl;
-      read = refl;
-      keeps = λ l p loaded v below f. keep-follows (a .c) (a .table .now) l p v (a .slot .0) (a .stream) (a .listed) (a .answer) (e .result) (e .last .1 .0) f (e .ensures l p loaded (v .memory) below f);
-    })
+returns c h same given =
+    let a = c .before .before .before .before .before .before .before .before .before .before .before .before .before .before .args in
+    let s = c .before .before .before .before .store in (
+      λ l p body. acted (a .c) (a .table .now) l p (λ x. performStep x (a .slot .0) body (a .step)) _ (s .last .1 .0) l p given
+          (step-follows (a .c) (a .table .now) l p (a .slot .0) (a .row) h (a .step) (s .result) (s .last .1 .0) same (s .ensures) body),
+      record { header = c .before .before .before .before .before .before .before .before .put .ensures; silent = λ w. never (sym given ∙ w) },
+    )
 
 pub keep-spec : {M : Type 1} → statement M
-keep-spec = tie.close (tie.spec store-requires with-memory-requires answered-requires same-length returns)
+keep-spec = tie.close (tie.spec put-requires store-requires same-length same-length-2 returns)

@@ -1,29 +1,18 @@
--- `calls::tick` meets its contract: the gate is the rules' own, and behind it stands the ping. Assumes nothing.
-use mathlib.Core.Path.{sym, ap, _∙_}
+-- `connection_write::tick` meets its contract: the gate is the rules' own, and behind it stands the ping. Assumes nothing.
+use mathlib.Core.Path.{refl, sym, _∙_}
+use mathlib.Core.List.{[]}
 use borrow.Author.Needs.{needs}
-use borrow.Author.Tests.{not-true, not-false}
-use Rattle.rules.specs.Replies.{mayGive}
-use Rattle.rules.specs.Step.{tick}
-use Rattle.memory.proofs.Laws.{never}
+use Rattle.rules.specs.Calls.{tickRules}
+use Rattle.rules.specs.Step.{tick, step}
 use Rattle.connection.specs.Abstract.{absOf}
-use Rattle.connection.proofs.Promises.{wrong-size, refusing, following, refused-gives}
-use Rattle.connection_write.proofs.Locals.{tick-shut, tick-open, tick-done, tick-follows}
+use Rattle.connection.proofs.Promises.{promised, refused-gives}
+use Rattle.connection.proofs.Tests.{gate-shut, gate-open}
+use Rattle.connection_write.proofs.Handles.{tick-handles}
 use Rattle.connection_write.proofs.tick.Statement.{statement}
 use Rattle.connection_write.proofs.tick.Tie as tie
 
-sent-sized-requires : tie.Need-sent-sized-requires
-sent-sized-requires c κs = search needs
-
-refuse-requires : tie.Need-refuse-requires
-refuse-requires c κs = search needs
-
-returns : tie.Need-returns
-returns c =
-    let a = c .before .before .before .before .before .args in
-    rw (c .refuse .ensures) (
-      λ l p. wrong-size (a .c) (a .table .now) l p _ (tick (a .time)) (sym (c .before .before .sent-sized .ensures) ∙ not-true _ (c .before .if1 .taken)),
-      refused-gives _ _ _,
-    )
+table-fits-requires : tie.Need-table-fits-requires
+table-fits-requires c κs = search needs
 
 judge-requires : tie.Need-judge-requires
 judge-requires c κs = search needs
@@ -31,50 +20,57 @@ judge-requires c κs = search needs
 enum-known-gate : tie.Need-enum-known-gate
 enum-known-gate c = search needs
 
-refuse-requires-2 : tie.Need-refuse-requires-2
-refuse-requires-2 c κs = search needs
+refuse-requires : tie.Need-refuse-requires
+refuse-requires c κs = search needs
 
 enum-told : tie.Need-enum-told
 enum-told c = search needs
 
-ping-requires : tie.Need-ping-requires
-ping-requires c κs = search needs
+on-tick-requires : tie.Need-on-tick-requires
+on-tick-requires c κs = search needs
 
-returns-2 : tie.Need-returns-2
-returns-2 c =
+put-requires : tie.Need-put-requires
+put-requires c κs = search needs
+
+pinged-requires : tie.Need-pinged-requires
+pinged-requires c κs = search needs
+
+returns : tie.Need-returns
+unfolding step
+returns c =
     let a = c .before .before .before .before .before .before .before .before .before .args in
-    rw (c .refuse2 .ensures) (
-      λ l p. refusing (a .c) (a .table .now) l p _ (tick (a .time)) (sym (c .before .before .before .before .before .before .sent-sized .ensures) ∙ not-false _ (c .before .before .before .before .before .if1 .left)) _
-          (λ v. tick-shut (absOf (a .c) (a .table .now) l p) (a .time) _ (sym (c .before .before .before .before .judge .ensures) ∙ c .before .before .gate .given .1)),
+    rw (c .refuse .ensures, ← c .before .before .before .before .before .table-fits .ensures) (
+      λ l p. gate-shut (a .c) (a .table .now) l p _ (tick (a .time)) (a .time) _ (a .c .ended) _ (sym (c .before .before .before .before .judge .ensures) ∙ c .before .before .gate .given .1) (λ v. refl),
       refused-gives _ _ _,
     )
 
 same-length : tie.Need-same-length
 same-length c = search needs
 
-returns-3 : tie.Need-returns-3
-returns-3 c =
-    let a = c .before .before .before .before .before .before .before .before .before .before .before .args in
-    let e = c .before .before .ping in
-    rw (e .ensures .0) (
-      λ l p. following (a .c) (a .table .now) l p _ (tick (a .time)) (sym (c .before .before .before .before .before .before .before .before .sent-sized .ensures) ∙ not-false _ (c .before .before .before .before .before .before .before .if1 .left)) _ (a .table .now) l p
-          (rw (tick-done (a .c .rtt) (a .time)))
-          (λ v. rw (tick-open (absOf (a .c) (a .table .now) l p) (a .time) (sym (c .before .before .before .before .before .before .judge .ensures) ∙ c .before .before .before .before .enum-told .given .1)) (tick-follows (a .c) (a .table .now) l p v (a .time))),
-      record { header = e .ensures .1; silent = λ w. never (sym (ap mayGive (tick-done (a .c .rtt) (a .time))) ∙ w) },
+returns-2 : tie.Need-returns-2
+unfolding step
+returns-2 c =
+    let a = c .before .before .before .before .before .before .before .before .before .before .before .before .before .before .args in
+    let o = gate-open _ (a .c .ended) (a .time) (sym (c .before .before .before .before .before .before .before .before .before .judge .ensures) ∙ c .before .before .before .before .before .before .before .enum-told .given .1) in
+    let h = tick-handles (a .c) (a .table .now) (a .time) _ (c .before .before .before .before .before .before .on-tick .ensures) in
+    rw (c .pinged .ensures, ← c .before .before .before .before .before .before .before .before .before .before .table-fits .ensures) (
+      λ l p. promised (a .c) (a .table .now) l p _ (tick (a .time)) (o .0) (λ x. tickRules x (a .time)) _ (a .table .now) l p
+          (λ v. o .1 (absOf (a .c) (a .table .now) l p) (tickRules (absOf (a .c) (a .table .now) l p) (a .time))) (h l p),
+      record { header = c .before .before .before .put .ensures; silent = h [] [] .silent },
     )
 
 pub tick-spec : {M : Type 1} → statement M
 tick-spec =
     tie.close
     (tie.spec
-    sent-sized-requires
-    refuse-requires
-    returns
+    table-fits-requires
     judge-requires
     enum-known-gate
-    refuse-requires-2
+    refuse-requires
     enum-told
-    ping-requires
-    returns-2
+    on-tick-requires
+    put-requires
+    pinged-requires
+    returns
     same-length
-    returns-3)
+    returns-2)

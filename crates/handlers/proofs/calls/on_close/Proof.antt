@@ -1,6 +1,5 @@
 -- `handlers::calls::on_close` meets its contract. Assumes nothing.
 use borrow.Author.Needs.{needs}
-use Rattle.handlers.specs.Locals.{onClose}
 use Rattle.handlers.proofs.calls.on_close.Statement.{statement}
 use Rattle.handlers.proofs.calls.on_close.Tie as tie
 
@@ -11,7 +10,6 @@ at-slot-requires : tie.Need-at-slot-requires
 at-slot-requires c κs = search needs
 
 returns : tie.Need-returns
-unfolding onClose
 returns c = rw (c .at-slot .ensures, c .before .before .close .ensures)
 
 pub on-close-spec : {M : Type 1} → statement M

@@ -1,7 +1,7 @@
--- `handlers::calls::write_action` meets its contract. Assumes nothing.
+-- `handlers::calls::write_step` meets its contract. Assumes nothing.
 use borrow.Author.Needs.{needs}
-use Rattle.handlers.proofs.calls.write_action.Statement.{statement}
-use Rattle.handlers.proofs.calls.write_action.Tie as tie
+use Rattle.handlers.proofs.calls.write_step.Statement.{statement}
+use Rattle.handlers.proofs.calls.write_step.Tie as tie
 
 enum-told : tie.Need-enum-told
 enum-told c = search needs
@@ -27,8 +27,8 @@ returns-2 c = rw (c .before .before .written .given .1, c .at-slot .ensures)
 returns-3 : tie.Need-returns-3
 returns-3 c = rw (c .before .before .written2 .given .1, c .at-slot2 .ensures)
 
-pub write-action-spec : {M : Type 1} → statement M
-write-action-spec =
+pub write-step-spec : {M : Type 1} → statement M
+write-step-spec =
     tie.close
     (tie.spec
     enum-told
