@@ -55,6 +55,10 @@ int main(void)
     TELL(YAMUX_ACK);
     TELL(YAMUX_FIN);
     TELL(YAMUX_RST);
+    TELL(YAMUX_GO_AWAY_NORMAL);
+    TELL(YAMUX_GO_AWAY_PROTOCOL_ERROR);
+    TELL(YAMUX_GO_AWAY_INTERNAL_ERROR);
+    TELL(YAMUX_INITIAL_WINDOW);
     while (fgets(line, sizeof line, stdin)) {
         if (line[0] == '=')
             decode(line + 1);

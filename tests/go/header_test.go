@@ -106,6 +106,10 @@ func numbers() []string {
 		fmt.Sprint("YAMUX_ACK ", flagACK),
 		fmt.Sprint("YAMUX_FIN ", flagFIN),
 		fmt.Sprint("YAMUX_RST ", flagRST),
+		fmt.Sprint("YAMUX_GO_AWAY_NORMAL ", goAwayNormal),
+		fmt.Sprint("YAMUX_GO_AWAY_PROTOCOL_ERROR ", goAwayProtoErr),
+		fmt.Sprint("YAMUX_GO_AWAY_INTERNAL_ERROR ", goAwayInternalErr),
+		fmt.Sprint("YAMUX_INITIAL_WINDOW ", initialStreamWindow),
 	}
 }
 
