@@ -103,11 +103,12 @@ module _ (c : Connection) (t l : List ℕ) (i : Slot) (row : Row) (r : Removed) 
           let s : entry es (i .0) .stream ≡ row .stream = ap (λ (x : Entry). x .stream) (held-entry c t l p (i .0) row h v) in
           rw s (place-follows (find es (row .stream .id)) refl (rw e at w))
 
-    pub release-handles : (f : Which) → Finds t (c .memory .slots) (row .stream .id) f → Removes (c .memory) t i f r t₁
-        → Releases c t l i row (answered (rebuilt c (c .rtt) (c .ended) (c .«next_id») (c .«open_wait») (growthReturned (c .growth) (row .stream .flow)) m₂) (r .answer)) t₂ l₂
-    release-handles f finds w h p =
-        acted c t l p (λ x. dropRules x (i .0) (entry (x .slots) (i .0))) (result (r .answer)) t₂ l₂ p (removed-gives (c .memory) t i f r t₁ w)
-        (λ v. released-follows h p v f finds w)
+    pub release-handles : (g : ℕ) → g ≡ growthReturned (c .growth) (row .stream .flow) → (f : Which) → Finds t (c .memory .slots) (row .stream .id) f → Removes (c .memory) t i f r t₁
+        → Releases c t l i row (answered (rebuilt c (c .rtt) (c .ended) (c .«next_id») (c .«open_wait») g m₂) (r .answer)) t₂ l₂
+    release-handles g back f finds w h p =
+        rw back
+        (acted c t l p (λ x. dropRules x (i .0) (entry (x .slots) (i .0))) (result (r .answer)) t₂ l₂ p (removed-gives (c .memory) t i f r t₁ w)
+        (λ v. released-follows h p v f finds w))
 
 -- ---- the promise
 

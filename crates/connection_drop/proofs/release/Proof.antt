@@ -31,9 +31,8 @@ returns c =
     let d = c .before .before .before .before .before .before .before .before .before .before .before .before .before .before .before .before .before .find in
     let r = c .before .before .before .before .before .before .before .before .before .before .before .before .before .before .before .remove in
     let f = c .before .before .before .before .before .before .free in
-    rw (c .before .before .before .before .before .before .before .before .before .before .before .before .before .before .before .before .before .before .before .growth-returned .ensures)
-    (release-handles (a .c) (a .table .now) (a .links .now) (a .slot) (a .row) (r .result) (r .last .1 .0) (f .result) (f .last .1 .0) (f .last .1 .1 .0)
-    (rw (c .before .before .before .before .before .before .before .before .before .load .ensures) at (f .ensures)) (d .result) (d .ensures) (r .ensures))
+    release-handles (a .c) (a .table .now) (a .links .now) (a .slot) (a .row) (r .result) (r .last .1 .0) (f .result) (f .last .1 .0) (f .last .1 .1 .0)
+    (rw (c .before .before .before .before .before .before .before .before .before .load .ensures) at (f .ensures)) _ (c .before .before .before .before .before .before .before .before .before .before .before .before .before .before .before .before .before .before .before .growth-returned .ensures) (d .result) (d .ensures) (r .ensures)
 
 pub release-spec : {M : Type 1} → statement M
 release-spec =
