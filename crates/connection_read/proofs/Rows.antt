@@ -62,7 +62,9 @@ module _ (c : Connection) (i : ℕ) (row : Row) (asked time : ℕ) where
   step-giving = steps .giving
 
   step-id : stepOf c slot row asked time .stream .id ≡ row .stream .id
-  step-id = steps .id ∙ updated-keeps (row .stream) _ .same-id
+  step-id =
+      steps .id
+      ∙ updated-keeps (row .stream) (record { unread = row .queue .unread; time = time; «round_trip» = c .rtt .«round_trip»; limit = c .config .limit; «max_num_streams» = c .config .«max_num_streams»; growth = c .growth }) .same-id
 
   module _ (t l p : List ℕ) (h : Holds c t i row) where
     abbrev x : Entry
