@@ -12,6 +12,7 @@ use Rattle.frame.specs.declared.header.StreamId.{StreamId}
 use Rattle.frame.specs.declared.header.Credit.{Credit}
 use Rattle.flow_control.specs.Windows.{top, nextWindowUpdate, withSend}
 use Rattle.flow_control.specs.declared.FlowController.{FlowController}
+use Rattle.flow_control.specs.declared.Conditions.{Conditions}
 use Rattle.flow_control.specs.declared.Update.{Update}
 use Rattle.flow_control.specs.declared.Update.the-variants as update
 use Rattle.flow_control.proofs.Laws.{creditOf, steps, credited}
@@ -24,7 +25,7 @@ use Rattle.stream.specs.declared.State.{State}
 use Rattle.stream.specs.declared.State.the-variants.{Open, SendClosed, RecvClosed, Closed}
 use Rattle.stream.specs.declared.Stream.{Stream}
 use Rattle.stream.specs.declared.Updated.{Updated}
-use Rattle.stream.specs.declared.Reading.the-variants as reading
+use Rattle.stream.specs.declared.ReadEnd.the-variants as reading
 use Rattle.rules.specs.Lists.{Place, at, nowhere}
 use Rattle.rules.specs.State.{Entry, Conn, vacant, entry, withGrowth, isFree, hasId, find, lowestFree, listedCount, unacknowledged}
 use Rattle.rules.specs.Ending.{Result, endEntry}
@@ -84,10 +85,7 @@ granted-flag owed.Ack id n a x y h r s = (omega (arith, h .0, r), omega (arith, 
 updated : (s : Stream) (u : Update) (a : Account) (x y : FlowController) → Balanced a x →
     y .«receive_window» ≡ x .«receive_window» + creditOf u → y .«send_window» ≡ x .«send_window» → Balanced (wentOut (stream.updateFrame s u) a) y
 updated s update.NotDue a x y h r e = (omega (arith, h .0, r), omega (arith, h .1, e))
-updated s (update.Unmeasured n) a x y h r e = granted-flag (s .flag) (s .id) n a x y h r e
-updated s (update.Late n) a x y h r e = granted-flag (s .flag) (s .id) n a x y h r e
-updated s (update.Doubled n) a x y h r e = granted-flag (s .flag) (s .id) n a x y h r e
-updated s (update.HeldDown n) a x y h r e = granted-flag (s .flag) (s .id) n a x y h r e
+updated s (update.Due why n) a x y h r e = granted-flag (s .flag) (s .id) n a x y h r e
 
 -- a Data frame carries what the send window falls by
 sent-flag : (f : Flag) (id : StreamId) (n : ℕ) (a : Account) (x y : FlowController) → Balanced a x →
@@ -120,13 +118,17 @@ module _ (c : Conn) (b : ℕ → Account) (h : Balance b (c .slots)) (i : ℕ) (
   unfolding windowStep
   steps-balance now =
       let f = old .stream .flow in
-      let n = length (old .bytes) in
-      let rt = c .pings .«round_trip» in
-      let limit = c .config .limit in
-      let m = c .config .«max_num_streams» in
-      let next = nextWindowUpdate f n now rt limit m (c .growth) in
+      let k : Conditions = record {
+        unread = length (old .bytes);
+        time = now;
+        «round_trip» = c .pings .«round_trip»;
+        limit = c .config .limit;
+        «max_num_streams» = c .config .«max_num_streams»;
+        growth = c .growth;
+      } in
+      let next = nextWindowUpdate f k in
       split (λ (u : Updated). Balanced (wentOut (u .sent) (b i)) (u .stream .flow)) (canRead (old .stream .state))
-      (λ r. updated (old .stream) (next .update) (b i) f (next .flow) (h i) (credited f n now rt limit m (c .growth)) (steps f n now rt limit m (c .growth) .send))
+      (λ r. updated (old .stream) (next .granted .update) (b i) f (next .flow) (h i) (credited f k) (steps f k .send))
       (λ r. h i)
 
   read-balances : (u : Updated) → Balanced (wentOut (u .sent) (b i)) (u .stream .flow) → (n : ℕ) (s t : Bool) →

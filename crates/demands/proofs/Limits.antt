@@ -19,8 +19,8 @@ use Rattle.rtt.specs.declared.NextPing.{NextPing}
 use Rattle.rtt.specs.declared.NextPing.the-variants as ask
 use Rattle.flow_control.specs.Windows.{top}
 use Rattle.stream.specs.declared.Updated.{Updated}
-use Rattle.stream.specs.declared.Reading.{Reading}
-use Rattle.stream.specs.declared.Reading.the-variants as reading
+use Rattle.stream.specs.declared.ReadEnd.{ReadEnd}
+use Rattle.stream.specs.declared.ReadEnd.the-variants as reading
 use Rattle.stream.specs.declared.Written.{Written}
 use Rattle.stream.specs.declared.Written.the-variants as written
 use Rattle.rules.specs.declared.Reply.{Reply}
@@ -59,7 +59,7 @@ module _ (c : Conn) where
   holding-plain : (i : ℕ) (next : Result) → Plain next → Plain (rules.holding c i next)
   holding-plain i next p = split Plain (entry (c .slots) i .held) (λ t. p) (λ t. (refl, refl))
 
-  read-plain : (i : ℕ) (e : Entry) (u : Updated) (n : ℕ) (r : Reading) → Plain (readRest c i e u n r)
+  read-plain : (i : ℕ) (e : Entry) (u : Updated) (n : ℕ) (r : ReadEnd) → Plain (readRest c i e u n r)
   unfolding readRest
   read-plain i e u n (reading.Done s) = (refl, refl)
   read-plain i e u n (reading.Wait s) = (refl, refl)
