@@ -13,7 +13,7 @@ use Rattle.frame.specs.declared.header.Tag.the-variants.{Data, WindowUpd
 
 -- ---- stream ids
 
--- The client opens streams with odd ids, the server with even ones.
+-- The client opens streams with odd ids, the server with even ones. Document 01: "Even ids, 0 among them, are the server's."
 abbrev pub client : StreamId → Bool
 client id = eqb (id .0 % 2) 1
 
@@ -133,7 +133,7 @@ sessionId = record { 0 = 0 }
 abbrev pub dataHeader : StreamId → Len → Header
 dataHeader id n = plain Data id (n .0)
 
--- Window Update: the length is the credit, by which the receiver's window grows.
+-- Window Update: the length is the credit, by which the window grows: so many bytes more may the frame's receiver send.
 abbrev pub windowUpdateHeader : StreamId → Credit → Header
 windowUpdateHeader id c = plain WindowUpdate id (c .0)
 
