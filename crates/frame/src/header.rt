@@ -13,7 +13,7 @@ pub struct Flags(pub u16);
 // The length field as it stands in a header. What it means depends on the type.
 pub struct Len(pub u32);
 
-// The length field of a window update: the bytes by which the receiver's window grows.
+// The length field of a window update: the bytes more that the frame's receiver may send.
 pub struct Credit(pub u32);
 
 // The message type.
