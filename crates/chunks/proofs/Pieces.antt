@@ -49,7 +49,7 @@ module _ (l : List ℕ) (at x need last node : ℕ) (r : Piece) (stands : Stands
         full = λ more. (omega (arith, s .0), let f : r .len % BLOCK ≡ 0 = lies .full (omega arith) in omega (arith, s .1));
       }
 
--- the same, of a turn that goes on from `done` of n bytes
+-- a turn that goes on from `done` of n bytes stands past its piece
 pub stands-on : (l : List ℕ) (at from done n last node : ℕ) (r : Piece) → Stands l at (from + done) (n - done) last → node ≡ getD l last 0 → Lies l node (n - done) r
     → Stands l at (from + (done + r .len)) (n - (done + r .len)) (r .last)
 stands-on l at from done n last node r stands link lies =

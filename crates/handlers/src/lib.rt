@@ -51,7 +51,7 @@ pub enum Action {
     Answer(Answer),
     // The stream at the slot is now this one, and in the table or not.
     Store(Slot, Stream, bool, Answer),
-    // The same, and the frame's body is queued.
+    // The stream at the slot is now this one, and in the table or not, and the frame's body is queued after its bytes.
     Queue(Slot, Stream, bool, Answer),
     // A new stream takes the slot, with the frame's body queued.
     New(Slot, Stream, Answer),

@@ -14,11 +14,11 @@ use Rattle.memory.specs.declared.Memory.{Memory}
 abbrev pub tableFits : ℕ → ℕ → Bool
 tableFits K n = eqb n (size K)
 
--- the same with links, for K slots and P bytes
+-- whether a lent table and lent links have the sizes for K slots and P bytes
 abbrev pub linksFit : ℕ → ℕ → ℕ → ℕ → Bool
 linksFit K P t l = cond (tableFits K t) (eqb l (blocksFor K P)) false
 
--- the same with a pool
+-- whether a lent table, links and pool have the sizes for K slots and P bytes
 abbrev pub fits : ℕ → ℕ → ℕ → ℕ → ℕ → Bool
 fits K P t l p = cond (linksFit K P t l) (eqb p (blocksFor K P * BLOCK)) false
 

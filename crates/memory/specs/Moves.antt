@@ -54,13 +54,13 @@ Stores m t i row s listed m′ t′ =
     (l p : List ℕ) → row ≡ rowAt t (m .slots) i → Valid m t l p → i < m .slots → Follows (entry (slotsOf m t l p) i) s listed
     → Moved m t l p i (held s listed (entry (slotsOf m t l p) i .bytes)) m′ t′ l p
 
--- the same, with b after the bytes
+-- the stream at slot i is s, with b after its bytes
 abbrev pub Feeds : Memory → List ℕ → List ℕ → List ℕ → ℕ → Row → Stream → Bool → List ℕ → Memory → List ℕ → List ℕ → List ℕ → Type 0
 Feeds m t l p i row s listed b m′ t′ l′ p′ =
     row ≡ rowAt t (m .slots) i → Valid m t l p → i < m .slots → Follows (entry (slotsOf m t l p) i) s listed → m .unread + length b ≤ m .pool
     → Moved m t l p i (held s listed (entry (slotsOf m t l p) i .bytes ++ b)) m′ t′ l′ p′
 
--- the same, with the oldest n bytes moved to the front of out, which is else as it was
+-- the stream at slot i is s, its oldest n bytes moved to the front of out, which is else as it was
 pub record Drained (m : Memory) (t l p : List ℕ) (i : ℕ) (s : Stream) (out : List ℕ) (n : ℕ) (m′ : Memory) (t′ l′ out′ : List ℕ) : Type 0 where
   pub gave : out′ ≡ take n (entry (slotsOf m t l p) i .bytes) ++ drop n out
   pub moved : Moved m t l p i (held s (entry (slotsOf m t l p) i .listed) (drop n (entry (slotsOf m t l p) i .bytes))) m′ t′ l′ p

@@ -24,7 +24,7 @@ pub record Applied (c : Connection) (t l p sent : List ℕ) (x : Call) (d : Done
   pub header : sent′ ≡ sentAfter (d .answer .sent) sent
   pub bytes : take (d .read) bytes′ ≡ step (absOf c t l p) x .outcome .bytes
 
--- the same of the call that an event stands for, from a valid state
+-- the call that an event stands for is applied, from a valid state and with twelve bytes for a header
 abbrev pub Applies : Connection → List ℕ → List ℕ → List ℕ → List ℕ → List ℕ → Event → Done → List ℕ → List ℕ → List ℕ → List ℕ → List ℕ → Type 0
 Applies c t l p sent s e d t′ l′ p′ sent′ bytes′ = Valid c t l p → length sent ≡ 12 → Applied c t l p sent (callOn s e) d t′ l′ p′ sent′ bytes′
 

@@ -131,7 +131,7 @@ module _ (s m : List ℕ) where
   found-more low top parsed.Short h = refl
   found-more low top parsed.Bad h = refl
 
-  -- the same of the call that the event stands for
+  -- a longer part has the same call, unless it was too short
   pub call-more : (at : ℕ) → Settles short (callAt s at) (callAt (s ++ m) at)
   unfolding callAt
   call-more at = go (event-more at)

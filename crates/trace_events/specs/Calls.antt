@@ -73,7 +73,7 @@ Within s low top (parsed.Event e) = Spans s low top (e .next) × Lies (e .next) 
 Within s low top parsed.Short = length s < top
 Within s low top parsed.Bad = Unit
 
--- the same of the settings, which start at the input's first byte: ten numbers of ten groups at most
+-- settings, which start at the input's first byte, lie within it: ten numbers of ten groups at most
 abbrev pub PreambleIn : List ℕ → Preamble → Type 0
 PreambleIn s (preamble.Settings t next) = Spans s 0 100 next
 PreambleIn s preamble.Short = length s < 100
