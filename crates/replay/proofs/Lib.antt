@@ -1,4 +1,6 @@
 -- What the program's proofs share.
-pub mod Starting
-pub mod Feeding
 pub mod Nearing
+pub mod Acting
+pub mod Turning
+pub mod Accounts
+pub mod Starting

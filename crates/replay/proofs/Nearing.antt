@@ -10,11 +10,17 @@ use lib.Seq.{length-take-le}
 use borrow.Author.Tests.{le-leb}
 use Rattle.trace_events.specs.Calls.{longest}
 use Rattle.trace_lines.specs.Writing.{longestLine}
-use Rattle.trace.specs.Output.{allowance, kept}
+use Rattle.trace.specs.Output.{allowance}
 use Rattle.trace.specs.Turns.{Lacks}
 use Rattle.trace.specs.declared.Report.{Report}
 use Rattle.trace.specs.declared.Stop.{Stop}
-use Rattle.replay.specs.Places.{afterRun, some, left, Nears, Fed}
+use Rattle.replay.specs.Places.{afterRun, moved, some, left, Nears}
+use Rattle.memory.proofs.Laws.{never}
+use Rattle.filter.specs.Account.{Account}
+use Rattle.filter.specs.Parts.{kept, Inside, afterRead, afterWrite, Fed}
+use Rattle.filter.specs.declared.Standing.{Standing}
+use Rattle.filter.specs.declared.Got.{Got}
+use Rattle.filter.specs.declared.Got.the-variants.{More, End, Failed}
 use Rattle.replay.specs.declared.State.{State}
 
 less : (x y z : ℕ) → x < y → y ≤ z → x < z
@@ -37,25 +43,29 @@ pub kept-length : (s : List ℕ) (from to : ℕ) → from ≤ to → to ≤ leng
 kept-length s from to h k = rw (le-leb to (length s) k) (length-take-le (to - from) (drop from s) (rw (length-drop from s) (omega arith)))
 
 -- lines are written where there were too many for one more
-pub flushed : (s s′ : State) (room : ℕ) → longestLine ≤ room → room - s .put < longestLine
-    → s′ .applied ≡ s .applied → s′ .at ≡ s .at → s′ .have ≡ s .have → s′ .put ≡ 0 → s′ .ended ≡ s .ended → left s′ < left s
-flushed s s′ room h l a b c d e = rw (a, b, c, d, e) (let x = some-any (s .put) (omega arith) in omega (arith, x))
+pub flushed : (s : State) (written : Bool) (room : ℕ) → longestLine ≤ room → room - s .standing .put < longestLine → s .standing .done ≡ false → Nears s (moved s (afterWrite (s .standing) written))
+flushed s true room h l live e = let x = some-any (s .standing .put) (omega arith) in omega (arith, x)
+flushed s false room h l live e = never e
 
 -- the input goes on, or it has ended
-pub fed : (input : List ℕ) (s s′ : State) (input′ : List ℕ) → s .at ≤ s .have → length (kept input (s .at) (s .have)) ≡ s .have - s .at
-    → s .have < s .at + longest → s .ended ≡ false → Fed input s s′ input′ → Nears s s′
-fed input s s′ input′ h k l live f e = go (f .nears e)
+pub fed : (input : List ℕ) (s : State) (x : Standing) (input′ : List ℕ) → s .standing .at ≤ s .standing .have → s .standing .have ≤ length input
+    → s .standing .have < s .standing .at + longest → s .standing .ended ≡ false → {b : Account} → Fed (s .standing) input b x input′ → Nears s (moved s x)
+fed input s x input′ h i l live f = go (f .got) (f .inside) (f .is)
   where
-    go : (s′ .ended ≡ true) ⊎ (length (kept input (s .at) (s .have)) < s′ .have) → left s′ < left s
-    go (inl x) = rw (f .stays .1, f .start, f .lines, x, live) (omega (arith, f .more, k, h, l))
-    go (inr x) = rw (f .stays .1, f .start, f .lines, live) (omega (arith, x, k, h, l, flag-most (s′ .ended)))
+    n : ℕ
+    n = length (kept input (s .standing .at) (s .standing .have))
+
+    go : (got : Got) → Inside n (length input) got → x ≡ afterRead (s .standing) n got → Nears s (moved s x)
+    go (More m) j e = rw (e, live) (λ z. omega (arith, j .0, kept-length input (s .standing .at) (s .standing .have) h i))
+    go End j e = rw (e, live) (λ z. omega (arith, kept-length input (s .standing .at) (s .standing .have) h i))
+    go Failed j e = rw e (λ z. never z)
 
 -- a run applies no event and stays, or applies some
 pub ran : (s : State) (r : Report)
-    → ((r .place .applied ≡ s .applied) × (r .place .at ≡ s .at) × (r .place .put ≡ s .put)) ⊎ ((s .applied < r .place .applied) × (r .place .applied ≤ allowance))
+    → ((r .place .applied ≡ s .applied) × (r .place .at ≡ s .standing .at) × (r .place .put ≡ s .standing .put)) ⊎ ((s .applied < r .place .applied) × (r .place .applied ≤ allowance))
     → left (afterRun s r) ≤ left s
 ran s r (inl x) = rw (x .0, x .1, x .2) (omega arith)
-ran s r (inr x) = omega (arith, x .0, x .1, flag-most (s .ended), some-most (r .place .put))
+ran s r (inr x) = omega (arith, x .0, x .1, flag-most (s .standing .ended), some-most (r .place .put))
 
 pub then : (s s₁ s₂ : State) → left s₁ ≤ left s → Nears s₁ s₂ → Nears s s₂
 then s s₁ s₂ h n live = less (left s₂) (left s₁) (left s) (n live) h
@@ -66,11 +76,11 @@ lacks-as why size at room put {have} {free} e f l = subst (λ (n : ℕ). Lacks w
 
 -- the turns that there may still be
 abbrev pub turnsLeft : State → ℕ
-turnsLeft s = cond (s .done) 0 (suc (left s))
+turnsLeft s = cond (s .standing .done) 0 (suc (left s))
 
-pub sinks : (s s′ : State) → s .done ≡ false → Nears s s′ → turnsLeft s′ < turnsLeft s
-sinks s s′ live n = rw live (go (s′ .done) refl)
+pub sinks : (s s′ : State) → s .standing .done ≡ false → Nears s s′ → turnsLeft s′ < turnsLeft s
+sinks s s′ live n = rw live (go (s′ .standing .done) refl)
   where
-    go : (b : Bool) → s′ .done ≡ b → cond b 0 (suc (left s′)) < suc (left s)
+    go : (b : Bool) → s′ .standing .done ≡ b → cond b 0 (suc (left s′)) < suc (left s)
     go true e = omega arith
     go false e = omega (arith, n e)

@@ -1,72 +1,92 @@
--- Settings that a trace may have ask for no more than the program has, and end inside the input. Assumes nothing.
-use mathlib.Core.Path.{_≡_, refl, sym, subst}
-use mathlib.Core.Bool.{Bool, true, false, cond}
+-- Settings that a trace may have ask for no more than the program has, and make a connection. Assumes nothing.
+use mathlib.Core.Path.{_≡_, refl, sym, subst, _∙_}
+use mathlib.Core.Bool.{Bool, true}
 use mathlib.Core.List.{List}
-use Prim.Native.Nat.{ℕ, _≤_}
+use Prim.Native.Nat.{ℕ, _*_, _≤_}
 use native.Mathlib.Omega.{arith}
 use lib.Dec.{leb}
-use lib.ListN.{length}
-use borrow.Author.Tests.{leb-true}
+use lib.ListN.{length, take}
+use lib.Seq.{length-take-le}
+use borrow.Author.Tests.{leb-true, eq-eqb}
 use Rattle.rules.proofs.Lists.{both}
 use Rattle.rules.specs.Settings.{checked}
+use Rattle.rules.specs.State.{initial}
 use Rattle.rules.specs.declared.Settings.{Settings}
+use Rattle.rules.specs.declared.Setting.{Setting}
 use Rattle.rules.specs.declared.Config.{Config}
-use Rattle.rules.specs.declared.Checked.{Checked}
 use Rattle.rules.specs.declared.Checked.the-variants as settings
+use Rattle.connection.specs.Abstract.{absOf, Valid}
+use Rattle.connection.specs.declared.Connection.{Connection}
+use Rattle.chunks.specs.Blocks.{BLOCK, blocksFor}
+use Rattle.table.specs.Table.{size}
+use Rattle.connection_open.specs.Start.{sized, Begins, Creates}
+use Rattle.connection_open.specs.declared.Created.{Created}
+use Rattle.connection_open.specs.declared.Created.the-variants.{Made, Wrong, Size}
 use Rattle.trace_events.specs.Format.{settingsAt}
-use Rattle.trace_events.specs.Calls.{PreambleIn}
-use Rattle.trace_events.specs.declared.Preamble.{Preamble}
-use Rattle.trace_events.specs.declared.Preamble.the-variants as preamble
-use Rattle.trace_events.proofs.Settings.{settings-in}
-use Rattle.trace.specs.Output.{isSmall, sizesOf, judgedAs, begunAs}
-use Rattle.trace.specs.declared.Stop.the-variants as stop
+use Rattle.trace.specs.Output.{isSmall, sizesOf, begunAs}
 use Rattle.trace.specs.declared.ends.Sizes.{Sizes}
-use Rattle.trace.specs.declared.ends.Begun.{Begun}
 use Rattle.trace.specs.declared.ends.Begun.the-variants as begun
+use Rattle.trace.proofs.Remaining.{Prepared, events-reached}
+use Rattle.filter.specs.Parts.{holding}
+use Rattle.filter.specs.declared.Standing.{Standing}
+use Rattle.replay.specs.Plays.{Fitting, Started, Performs, played}
+
+-- ---- the connection
+
+module _ (t : Settings) (table links pool : List ℕ) (f : Fitting t (length table) (length links) (length pool)) (r : Created) (t′ l′ p′ : List ℕ) (k : Creates t table links pool r t′ l′ p′) where
+  begins : (x : Created) → r ≡ x → Begins (f .config) x t′ l′ p′
+  begins x e = subst (λ (y : Created). Begins (f .config) y t′ l′ p′) e (k .made (f .config) (f .fine) (f .fits))
+
+  pub made-valid : (c : Connection) → r ≡ Made c → Valid c t′ l′ p′
+  made-valid c e = begins (Made c) e .0
+
+  pub made-new : (c : Connection) → r ≡ Made c → (j : Config) → checked t ≡ settings.Fine j → absOf c t′ l′ p′ ≡ initial j
+  made-new c e j g =
+      let h : settings.Fine (f .config) ≡ settings.Fine j = sym (f .fine) ∙ g in
+      let same : f .config ≡ j = cc in
+      rw (← same) (begins (Made c) e .1)
+
+  pub never-wrong : (w : Setting) → r ≡ Wrong w → ⊥
+  never-wrong w e = begins (Wrong w) e
+
+  pub never-size : r ≡ Size → ⊥
+  never-size e = begins Size e
+
+-- ---- the settings
 
 -- the program's table, links and pool
-pub record Fits (z : Sizes) : Type 0 where
+pub record Lends (z : Sizes) : Type 0 where
   pub table : z .table ≤ 2700
   pub links : z .links ≤ 616
   pub pool : z .pool ≤ 630784
 
-small-fits : (k : Config) → isSmall k ≡ true → Fits (sizesOf k)
-small-fits k e =
-    let h = both (leb (k .slots) 300) (leb (k .pool) 16384) e in
-    let a : k .slots ≤ 300 = leb-true _ _ (h .0) in
-    let b : k .pool ≤ 16384 = leb-true _ _ (h .1) in
-    record { table = omega arith; links = omega arith; pool = omega arith }
+sizes-fit : (k : Config) → sized k (sizesOf k .table) (sizesOf k .links) (sizesOf k .pool) ≡ true
+sizes-fit k =
+    let n : ℕ = blocksFor (k .slots) (k .pool) in
+    rw (eq-eqb (size (k .slots)) (size (k .slots)) refl, eq-eqb n n refl) (eq-eqb (n * BLOCK) (n * BLOCK) refl)
 
-sizes-are : (t u : Settings) (z w : Sizes) (n m : ℕ) → begun.Fine t z n ≡ begun.Fine u w m → z ≡ w
-sizes-are t u z w n m e = cc
+module _ {s : List ℕ} {t : Settings} {z : Sizes} {next : ℕ} (f : Prepared s t z next) where
+  pub asked : Lends z
+  asked =
+      let h = both (leb (f .config .slots) 300) (leb (f .config .pool) 16384) (f .small) in
+      let a : f .config .slots ≤ 300 = leb-true _ _ (h .0) in
+      let b : f .config .pool ≤ 16384 = leb-true _ _ (h .1) in
+      rw (f .sizes) (record { table = omega arith; links = omega arith; pool = omega arith })
 
-place-is : (t u : Settings) (z w : Sizes) (n m : ℕ) → begun.Fine t z n ≡ begun.Fine u w m → n ≡ m
-place-is t u z w n m e = cc
+  pub fitting : (table links pool : List ℕ) → z .table ≤ length table → z .links ≤ length links → z .pool ≤ length pool
+      → Fitting t (length (take (z .table) table)) (length (take (z .links) links)) (length (take (z .pool) pool))
+  fitting table links pool a b c = record {
+    config = f .config;
+    fine = f .fine;
+    fits = rw (length-take-le (z .table) table a, length-take-le (z .links) links b, length-take-le (z .pool) pool c, f .sizes) (sizes-fit (f .config));
+  }
 
-abbrev IsFine : Begun → Type 0
-IsFine (begun.Fine t z n) = Unit {0}
-IsFine (begun.Stop why) = ⊥
-
--- the sizes fit, and the place is m
-abbrev Good : ℕ → Sizes → ℕ → Type 0
-Good m z n = Fits z × (m ≡ n)
-
-module _ (t : Settings) (z : Sizes) (n : ℕ) where
-  other : {A : Type 0} (b : Begun) → (IsFine b → ⊥) → b ≡ begun.Fine t z n → A
-  other b f e = absurd (f (subst IsFine (sym e) tt))
-
-  small : (u : Settings) (k : Config) (m : ℕ) (b : Bool) → isSmall k ≡ b → cond b (begun.Fine u (sizesOf k) m) (begun.Stop stop.Refused) ≡ begun.Fine t z n → Good m z n
-  small u k m true q e = (subst Fits (sizes-are u t (sizesOf k) z m n e) (small-fits k q), place-is u t (sizesOf k) z m n e)
-  small u k m false q e = other (begun.Stop stop.Refused) (λ x. x) e
-
-  judged : (u : Settings) (m : ℕ) (c : Checked) → judgedAs c u m ≡ begun.Fine t z n → Good m z n
-  judged u m (settings.Wrong w) e = other (begun.Stop stop.Refused) (λ x. x) e
-  judged u m (settings.Fine k) e = small u k m (isSmall k) refl e
-
-  pub begun-fits : (s : List ℕ) → begunAs (settingsAt s) ≡ begun.Fine t z n → Fits z × (n ≤ length s)
-  begun-fits s e = go (settingsAt s) (settings-in s) e
-    where
-      go : (x : Preamble) → PreambleIn s x → begunAs x ≡ begun.Fine t z n → Fits z × (n ≤ length s)
-      go (preamble.Settings u m) h q = let g = judged u m (checked u) q in (g .0, omega (arith, g .1, h .1))
-      go preamble.Short h q = other (begun.Stop stop.Short) (λ x. x) q
-      go preamble.Bad h q = other (begun.Stop stop.Bad) (λ x. x) q
+-- the events are played from the place after the settings on
+pub plays : (x : Standing) (input room : List ℕ) (t : Settings) (z : Sizes) (next : ℕ) (r : Bool) → x ≡ holding (x .have) (x .ended) → x .have ≤ length input
+    → begunAs (settingsAt (take (x .have) input)) ≡ begun.Fine t z next
+    → Started t (record { at = next; have = x .have; put = x .put; ended = x .ended; done = x .done; whole = x .whole }) input room r → Performs r
+plays x input room t z next r e h g q = (
+  _,
+  played (x .have) (x .ended) input room t z next r h g
+      (subst (λ (y : Standing). Started t (record { at = next; have = y .have; put = y .put; ended = y .ended; done = y .done; whole = y .whole }) input room r) e q),
+)

@@ -1,2 +1,3 @@
--- What the program's functions rely on.
+-- What the contracts of `replay` cite.
 pub mod Places
+pub mod Plays

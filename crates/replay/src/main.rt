@@ -2,13 +2,17 @@
 mod room;
 
 ghost use mathlib.Core.Path.{_≡_};
-ghost use Prim.Native.Nat.{_≤_, _<_};
+ghost use mathlib.Core.Bool.{false};
+ghost use Prim.Native.Nat.{_≤_};
 ghost use lib.ListN.{length, take};
-ghost use Rattle.trace.specs.Output.{kept};
+ghost use Rattle.connection.specs.Abstract.{Valid};
+ghost use Rattle.trace.specs.Output.{lastLine};
 ghost use Rattle.trace.specs.Turns.{Lacks};
-ghost use Rattle.replay.specs.Places.{placeOf, afterRun, Sound, Roomy, Nears, Stays, Fed, Closes, Ends, GoesOn, Played, Inside};
+ghost use Rattle.replay.specs.Places.{endOf, nextTask, placeOf, afterRun, Sound, Roomy, Nears};
+ghost use Rattle.replay.specs.Plays.{lent, Goes, Closes, Lines, Turns, Ended, Fitting, Started, Performs};
 use connection::Connection;
 use connection_open::Created;
+use filter::Standing;
 use rules::Settings;
 use trace::Begun;
 use trace::Place;
@@ -16,151 +20,116 @@ use trace::Report;
 use trace::Stop;
 use trace_lines::Put;
 
-// Where the program stands: the events applied, the input read and not yet taken, the lines not yet written, and whether the
-// input has ended and all is done.
+// The connection, the events applied, and where the program stands in its input and its output.
 struct State {
     connection: Connection,
     applied: u64,
-    at: usize,
-    have: usize,
-    put: usize,
-    ended: bool,
-    done: bool,
+    standing: Standing,
 }
 
-// What a read of standard input brought: as many bytes are there now, or it has ended, or it failed.
-enum Got {
-    More(usize),
+// What follows a run.
+enum Task {
+    Write,
+    Read,
     End,
-    Failed,
 }
 
 const ALLOWANCE: u64 = 1000000;
 
-// Reads once, after the first bytes of the buffer.
-fn read_more(src: &mut [u8], have: usize) -> Got
-    requires { ⌜ have < length (now src) ⌝ }
-    ensures { λ r. ⌜ Inside have (length (now (src .entry))) r ⌝ }
-    ensures { λ _. ⌜ take have (now (src .exit)) ≡ take have (now (src .entry)) ⌝ }
+// As many bytes as settings can take.
+const SETTINGS: usize = 100;
+
+// What follows a run that stopped so: lines are written where there was no room for one more, and more is read where the input goes on.
+fn next_task(stop: Stop, ended: bool) -> Task
+    ensures { λ r. ⌜ r ≡ nextTask stop ended ⌝ }
 {
-    let got = libc::read(0, &mut src[have..]);
-    if got < 0 {
-        io::write_all(2, b"replay: cannot read standard input\n");
-        return Got::Failed;
-    }
-    let n = io::count(got, &src[have..]);
-    if n == 0 {
-        return Got::End;
-    }
-    Got::More(have + n)
-}
-
-// Writes to standard output, and says so where it cannot.
-fn write_out(out: &[u8]) -> bool {
-    let written = io::write_all(1, out);
-    if !written {
-        io::write_all(2, b"replay: cannot write standard output\n");
-    }
-    written
-}
-
-// Writes what was put into the buffer.
-fn write_put(out: &[u8], put: Put) {
-    match put {
-        Put::At(end) => {
-            if end <= out.len() {
-                write_out(&out[..end]);
+    match stop {
+        Stop::Full => Task::Write,
+        Stop::Short => {
+            if ended {
+                return Task::End;
             }
+            Task::Read
         }
-        Put::Full => {}
+        Stop::Bad => Task::End,
+        Stop::Spent => Task::End,
+        Stop::Refused => Task::End,
     }
 }
 
-// Writes the lines that there are.
-fn flush(state: State, out: &[u8]) -> State
-    requires { ⌜ state .put ≤ length (now out) ⌝ }
-    ensures { λ r. ⌜ (r .at ≡ state .at) × (r .have ≡ state .have) × (r .put ≡ 0) × (r .ended ≡ state .ended) × Stays state r ⌝ }
+// The place after a text that was put at the room's start: nothing where there was no room.
+fn end_of(put: Put) -> usize
+    ensures { λ r. ⌜ r ≡ endOf put ⌝ }
 {
-    let put = state.put;
-    let written = write_out(&out[..put]);
-    State {
-        put: 0,
-        done: !written,
-        ..state
+    match put {
+        Put::At(end) => end,
+        Put::Full => 0,
     }
 }
 
-// Moves what is left of the input to the front of the buffer, and reads more.
-fn feed(state: State, src: &mut [u8]) -> State
-    requires { ⌜ length (kept (now src) (state .at) (state .have)) < length (now src) ⌝ }
-    ensures { λ r. ⌜ Fed (now (src .entry)) state r (now (src .exit)) ⌝ }
+// Puts the last line at the room's start, and returns its end.
+fn last_line(stop: Stop, left: usize, applied: u64, growth: u64, out: &mut [u8]) -> usize
+    requires { ⌜ 100 ≤ length (now out) ⌝ }
+    ensures { λ r. ⌜ take r (now (out .exit)) ≡ lastLine stop left applied growth ⌝ }
+    ensures { λ r. ⌜ r ≤ length (now (out .entry)) ⌝ }
 {
-    let kept = trace::keep_rest(src, state.at, state.have);
-    let got = read_more(src, kept);
-    match got {
-        Got::More(have) => State {
-            at: 0,
-            have,
-            ended: false,
-            done: false,
-            ..state
-        },
-        Got::End => State {
-            at: 0,
-            have: kept,
-            ended: true,
-            done: false,
-            ..state
-        },
-        Got::Failed => State {
-            at: 0,
-            have: kept,
-            ended: true,
-            done: true,
-            ..state
-        },
-    }
+    let put = trace::finish(out, 0, stop, left, applied, growth);
+    end_of(put)
 }
 
 // Writes the lines that there are, and the last line.
 fn finish(state: State, stop: Stop, out: &mut [u8]) -> State
-    requires { ⌜ (state .at ≤ state .have) × (state .put ≤ length (now out)) ⌝ }
-    ensures { λ r. ⌜ (r .at ≡ state .at) × (r .have ≡ state .have) × (r .put ≡ 0) × Stays state r ⌝ }
-    ensures { λ r. ⌜ Ends stop state (now (out .entry)) r (now (out .exit)) ⌝ }
+    requires { ⌜ (state .standing .at ≤ state .standing .have) × (state .standing .put ≤ length (now out)) × (100 ≤ length (now out)) × (state .standing .done ≡ false) ⌝ }
+    ensures { λ r. ⌜ Closes stop state (now (out .entry)) r ⌝ }
 {
-    let flushed = flush(state, &out[..]);
+    let standing = state.standing;
+    let flushed = filter::flush(standing, &out[..]);
     let connection = state.connection;
-    let left = state.have - state.at;
-    let put = trace::finish(out, 0, stop, left, state.applied, connection.growth);
-    if !flushed.done {
-        write_put(&out[..], put);
+    let left = standing.have - standing.at;
+    let put = last_line(stop, left, state.applied, connection.growth, out);
+    if flushed.done {
+        return State {
+            standing: flushed,
+            ..state
+        };
     }
+    let line = Standing { put, ..flushed };
+    let last = filter::flush(line, &out[..]);
+    let closed = Standing { done: true, ..last };
     State {
-        put: 0,
-        done: true,
+        standing: closed,
         ..state
     }
 }
 
 // What follows a run that stopped so.
 fn go_on(state: State, stop: Stop, src: &mut [u8], out: &mut [u8]) -> State
-    requires { ⌜ Sound (length (now src)) (length (now out)) state ⌝ }
+    requires { ⌜ Sound (length (now src)) (length (now out)) (state .standing) ⌝ }
     requires { ⌜ Roomy (length (now src)) (length (now out)) ⌝ }
-    requires { ⌜ Lacks stop (state .have) (state .at) (length (now out)) (state .put) ⌝ }
-    ensures { λ r. ⌜ Sound (length (now (src .entry))) (length (now (out .entry))) r ⌝ }
-    ensures { λ r. ⌜ Stays state r ⌝ }
-    ensures { λ r. ⌜ GoesOn stop state (now (src .entry)) (now (out .entry)) r (now (src .exit)) (now (out .exit)) ⌝ }
+    requires { ⌜ Lacks stop (state .standing .have) (state .standing .at) (length (now out)) (state .standing .put) ⌝ }
+    requires { ⌜ state .standing .done ≡ false ⌝ }
+    ensures { λ r. ⌜ Sound (length (now (src .entry))) (length (now (out .entry))) (r .standing) ⌝ }
     ensures { λ r. ⌜ Nears state r ⌝ }
+    ensures { λ r. ⌜ Goes stop state (now (src .entry)) (now (out .entry)) r (now (src .exit)) (now (out .exit)) ⌝ }
 {
-    match stop {
-        Stop::Full => flush(state, &out[..]),
-        Stop::Short => {
-            if state.ended {
-                return finish(state, stop, out);
+    let standing = state.standing;
+    let task = next_task(stop, standing.ended);
+    match task {
+        Task::Write => {
+            let flushed = filter::flush(standing, &out[..]);
+            State {
+                standing: flushed,
+                ..state
             }
-            feed(state, src)
         }
-        _ => finish(state, stop, out),
+        Task::Read => {
+            let fed = filter::feed(standing, src);
+            State {
+                standing: fed,
+                ..state
+            }
+        }
+        Task::End => finish(state, stop, out),
     }
 }
 
@@ -168,10 +137,11 @@ fn go_on(state: State, stop: Stop, src: &mut [u8], out: &mut [u8]) -> State
 fn place_of(state: State) -> Place
     ensures { λ r. ⌜ r ≡ placeOf state ⌝ }
 {
+    let standing = state.standing;
     Place {
-        at: state.at,
+        at: standing.at,
         applied: state.applied,
-        put: state.put,
+        put: standing.put,
     }
 }
 
@@ -181,13 +151,16 @@ fn after_run(state: State, report: Report) -> State
 {
     let connection = report.connection;
     let here = report.place;
+    let before = state.standing;
+    let standing = Standing {
+        at: here.at,
+        put: here.put,
+        ..before
+    };
     State {
         connection,
         applied: here.applied,
-        at: here.at,
-        put: here.put,
-        done: false,
-        ..state
+        standing,
     }
 }
 
@@ -202,14 +175,18 @@ fn turn(
     src: &mut [u8],
     out: &mut [u8],
 ) -> State
-    requires { ⌜ Sound (length (now src)) (length (now out)) state ⌝ }
+    requires { ⌜ Sound (length (now src)) (length (now out)) (state .standing) ⌝ }
     requires { ⌜ Roomy (length (now src)) (length (now out)) ⌝ }
-    ensures { λ r. ⌜ Sound (length (now (src .entry))) (length (now (out .entry))) r ⌝ }
+    requires { ⌜ Valid (state .connection) (now table) (now links) (now pool) × (length (now sent) ≡ 12) × (length (now bytes) ≡ 16384) ⌝ }
+    requires { ⌜ state .standing .done ≡ false ⌝ }
+    ensures { λ r. ⌜ Sound (length (now (src .entry))) (length (now (out .entry))) (r .standing) ⌝ }
     ensures { λ r. ⌜ Nears state r ⌝ }
-    ensures { λ r. ⌜ Played state (now (table .entry)) (now (links .entry)) (now (pool .entry)) (now (sent .entry)) (now (bytes .entry)) (now (src .entry)) (now (out .entry)) r (now (table .exit)) (now (links .exit)) (now (pool .exit)) (now (src .exit)) (now (out .exit)) ⌝ }
+    ensures { λ r. ⌜ Valid (r .connection) (now (table .exit)) (now (links .exit)) (now (pool .exit)) ⌝ }
+    ensures { λ r. ⌜ Turns state (lent (now (table .entry)) (now (links .entry)) (now (pool .entry)) (now (src .entry)) (now (out .entry))) r (lent (now (table .exit)) (now (links .exit)) (now (pool .exit)) (now (src .exit)) (now (out .exit))) ⌝ }
 {
     let connection = state.connection;
-    let have = state.have;
+    let standing = state.standing;
+    let have = standing.have;
     let place = place_of(state);
     let report = trace::run(
         connection,
@@ -228,7 +205,8 @@ fn turn(
     go_on(next, stop, src, out)
 }
 
-// Turn by turn, until all is done. Each turn but the last leaves less to do, so this ends even where the input does not.
+// Turn by turn, until all is done, and returns whether every read and write did its work. Each turn but the last leaves less to do, so
+// this ends even where the input does not.
 fn play(
     start: State,
     table: &mut [u64],
@@ -238,22 +216,30 @@ fn play(
     bytes: &mut [u8],
     src: &mut [u8],
     out: &mut [u8],
-)
-    requires { ⌜ Sound (length (now src)) (length (now out)) start ⌝ }
+) -> bool
+    requires { ⌜ Sound (length (now src)) (length (now out)) (start .standing) ⌝ }
     requires { ⌜ Roomy (length (now src)) (length (now out)) ⌝ }
+    requires { ⌜ Valid (start .connection) (now table) (now links) (now pool) × (length (now sent) ≡ 12) × (length (now bytes) ≡ 16384) ⌝ }
+    ensures { λ r. ⌜ Ended start (lent (now (table .entry)) (now (links .entry)) (now (pool .entry)) (now (src .entry)) (now (out .entry))) r ⌝ }
 {
     let mut state = start;
-    while !state.done {
+    let mut done = state.standing.done;
+    while !done {
         state = turn(state, table, links, pool, sent, bytes, src, out);
+        done = state.standing.done;
     }
+    state.standing.whole
 }
 
 // Writes the one line of a trace without an event.
-fn only_line(stop: Stop, out: &mut [u8])
-    ensures { λ _. ⌜ Closes stop 0 0 0 (now (out .entry)) (now (out .exit)) ⌝ }
+fn only_line(stop: Stop, standing: Standing, out: &mut [u8]) -> bool
+    requires { ⌜ 100 ≤ length (now out) ⌝ }
+    ensures { λ _. ⌜ Lines stop ⌝ }
 {
-    let put = trace::finish(out, 0, stop, 0, 0, 0);
-    write_put(&out[..], put);
+    let put = last_line(stop, 0, 0, 0, out);
+    let line = Standing { put, ..standing };
+    let last = filter::flush(line, &out[..]);
+    last.whole
 }
 
 // Makes the connection, and plays the events after the settings.
@@ -266,10 +252,12 @@ fn start(
     bytes: &mut [u8],
     src: &mut [u8],
     out: &mut [u8],
-    at: usize,
-    have: usize,
-)
-    requires { ⌜ (at ≤ have) × (have ≤ length (now src)) × Roomy (length (now src)) (length (now out)) ⌝ }
+    standing: Standing,
+) -> bool
+    requires { ⌜ Sound (length (now src)) (length (now out)) standing ⌝ }
+    requires { ⌜ Roomy (length (now src)) (length (now out)) ⌝ }
+    requires { ⌜ Fitting settings (length (now table)) (length (now links)) (length (now pool)) × (length (now sent) ≡ 12) × (length (now bytes) ≡ 16384) ⌝ }
+    ensures { λ r. ⌜ Started settings standing (now (src .entry)) (now (out .entry)) r ⌝ }
 {
     let created = connection_open::new(settings, table, links, pool);
     match created {
@@ -277,50 +265,17 @@ fn start(
             let state = State {
                 connection,
                 applied: 0,
-                at,
-                have,
-                put: 0,
-                ended: false,
-                done: false,
+                standing,
             };
-            play(state, table, links, pool, sent, bytes, src, out);
+            play(state, table, links, pool, sent, bytes, src, out)
         }
-        Created::Wrong(_) => only_line(Stop::Refused, out),
-        Created::Size => only_line(Stop::Refused, out),
+        Created::Wrong(_) => false,
+        Created::Size => false,
     }
 }
 
-// Settings that the input ends within, unless it cannot be read.
-fn cut_short(src: &mut [u8], out: &mut [u8])
-    requires { ⌜ 0 < length (now src) ⌝ }
-{
-    let got = read_more(src, 0);
-    match got {
-        Got::More(_) => only_line(Stop::Bad, out),
-        Got::End => only_line(Stop::Bad, out),
-        Got::Failed => {}
-    }
-}
-
-// Why no event is reached.
-fn reject(stop: Stop, src: &mut [u8], out: &mut [u8])
-    requires { ⌜ 0 < length (now src) ⌝ }
-{
-    match stop {
-        Stop::Short => cut_short(src, out),
-        _ => only_line(stop, out),
-    }
-}
-
-// Reads the first bytes: as many as settings can take, unless the input ends.
-fn read_first(src: &mut [u8]) -> usize
-    requires { ⌜ 100 ≤ length (now src) ⌝ }
-    ensures { λ r. ⌜ r ≤ length (now (src .entry)) ⌝ }
-{
-    io::read_full(0, &mut src[..100])
-}
-
-// Plays standard input in lent memory, which is enough for 300 slots and a pool of 16,384 bytes.
+// Plays standard input in lent memory, which is enough for 300 slots and a pool of 16,384 bytes. Returns whether every read and write
+// did its work.
 fn replay(
     table: &mut [u64],
     links: &mut [u32],
@@ -329,16 +284,22 @@ fn replay(
     bytes: &mut [u8],
     src: &mut [u8],
     out: &mut [u8],
-)
-    requires { ⌜ (2700 ≤ length (now table)) × (616 ≤ length (now links)) × (630784 ≤ length (now pool)) × Roomy (length (now src)) (length (now out)) ⌝ }
+) -> bool
+    requires { ⌜ (2700 ≤ length (now table)) × (616 ≤ length (now links)) × (630784 ≤ length (now pool)) × (length (now sent) ≡ 12) × (length (now bytes) ≡ 16384) × Roomy (length (now src)) (length (now out)) ⌝ }
+    ensures { λ r. ⌜ Performs r ⌝ }
 {
-    let have = read_first(src);
+    let filled = filter::fill(src, SETTINGS);
+    if filled.done {
+        return false;
+    }
+    let have = filled.have;
     let begun = trace::begin(&src[..have]);
     match begun {
         Begun::Fine(settings, sizes, next) => {
             let a = sizes.table;
             let b = sizes.links;
             let p = sizes.pool;
+            let standing = Standing { at: next, ..filled };
             start(
                 settings,
                 &mut table[..a],
@@ -348,11 +309,10 @@ fn replay(
                 bytes,
                 src,
                 out,
-                next,
-                have,
-            );
+                standing,
+            )
         }
-        Begun::Stop(stop) => reject(stop, src, out),
+        Begun::Stop(stop) => only_line(stop, filled, out),
     }
 }
 

@@ -30,7 +30,7 @@ use Rattle.connection_read.specs.Promises as reading
 use Rattle.trace_events.specs.Calls.{part, callOf, callOn}
 use Rattle.trace_events.specs.declared.Event.{Event}
 use Rattle.trace_events.specs.declared.Kind.the-variants as kinds
-use Rattle.trace.specs.Applies.{slotOf, Applied, Applies}
+use Rattle.trace.specs.Applies.{slotOf, Applied, Applies, sized}
 use Rattle.trace.proofs.Silent.{Silent, Headless, tick-silent, frame-silent, open-silent, open-headless, gone-silent, gone-headless, write-silent, close-silent, drop-silent}
 
 -- ---- a slot above every K
@@ -184,3 +184,8 @@ module _ (c : Connection) (t l p sent : List ℕ) where
               ∙ front _ (take count bytes) (drop count bytes) (o .bytes (all-right v w) v)
               ∙ ap (λ (r : Result). r .outcome .bytes) same;
         })
+
+-- in a valid state all that is lent has its size
+pub run-sized : (c : Connection) (t l p sent bytes : List ℕ) → Valid c t l p → length sent ≡ 12 → length bytes ≡ 16384
+    → sized c (length t) (length l) (length p) (length sent) (length bytes) ≡ true
+run-sized c t l p sent bytes v w z = rw (all-right c t l p sent v w) (eq-eqb _ _ z)

@@ -6,6 +6,6 @@ pub mod Applying
 pub mod Showing
 pub mod Turning
 pub mod Running
-pub mod Keeping
 pub mod Whole
+pub mod Remaining
 pub mod Unique

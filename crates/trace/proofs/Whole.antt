@@ -60,7 +60,7 @@ module _ (a more : List ℕ) where
     pub large-output : (k : Config) → checked t ≡ settings.Fine k → isSmall k ≡ false → output (a ++ more) ≡ configLine
     large-output k f g = rw (settings-same a more (preamble.Settings t next) (λ x. x) e, f, g)
 
-    fine-output : (k : Config) → checked t ≡ settings.Fine k → isSmall k ≡ true
+    pub fine-output : (k : Config) → checked t ≡ settings.Fine k → isSmall k ≡ true
         → output (a ++ more) ≡ printed (runs allowance (initial k) (a ++ more) next 0 endless) (length (a ++ more))
     fine-output k f g = rw (settings-same a more (preamble.Settings t next) (λ x. x) e, f, g)
 

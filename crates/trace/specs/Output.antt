@@ -4,11 +4,11 @@ use mathlib.Core.Bool.{Bool, false, cond}
 use mathlib.Core.List.{List, [], _++_}
 use Prim.Native.Nat.{ℕ, _+_, _-_, _*_}
 use lib.Dec.{ltb, leb}
-use lib.ListN.{length, take, drop}
+use lib.ListN.{length}
 use Rattle.chunks.specs.Blocks.{BLOCK, blocksFor}
 use Rattle.table.specs.Table.{size}
 use Rattle.rules.specs.Settings.{checked}
-use Rattle.rules.specs.State.{initial}
+use Rattle.rules.specs.State.{Conn, initial}
 use Rattle.rules.specs.declared.Settings.{Settings}
 use Rattle.rules.specs.declared.Config.{Config}
 use Rattle.rules.specs.declared.Checked.{Checked}
@@ -42,9 +42,10 @@ abbrev pub judgedAs : Checked → Settings → ℕ → Begun
 judgedAs (settings.Wrong w) t next = begun.Stop stop.Refused
 judgedAs (settings.Fine k) t next = cond (isSmall k) (begun.Fine t (sizesOf k) next) (begun.Stop stop.Refused)
 
+-- settings cut short, and an empty input, are unreadable (reading C6)
 abbrev pub begunAs : Preamble → Begun
 begunAs (preamble.Settings t next) = judgedAs (checked t) t next
-begunAs preamble.Short = begun.Stop stop.Short
+begunAs preamble.Short = begun.Stop stop.Bad
 begunAs preamble.Bad = begun.Stop stop.Bad
 
 -- ---- the last line
@@ -82,7 +83,7 @@ abbrev pub outputWith : Checked → List ℕ → ℕ → List ℕ
 outputWith (settings.Wrong w) s next = configLine
 outputWith (settings.Fine k) s next = cond (isSmall k) (printed (runs allowance (initial k) s next 0 endless) (length s)) configLine
 
--- settings cut short, and an empty input, are unreadable with no event applied (reading C6)
+-- an unreadable trace, with no event applied
 abbrev pub outputOf : Preamble → List ℕ → List ℕ
 outputOf (preamble.Settings t next) s = outputWith (checked t) s next
 outputOf preamble.Short s = badLine 0
@@ -92,8 +93,21 @@ outputOf preamble.Bad s = badLine 0
 abbrev pub output : List ℕ → List ℕ
 output s = outputOf (settingsAt s) s
 
--- ---- between parts
+-- ---- in parts
 
--- the bytes between two places, which go before the next part; none where they are not all there
-abbrev pub kept : List ℕ → ℕ → ℕ → List ℕ
-kept s from to = cond (leb to (length s)) (take (to - from) (drop from s)) []
+-- what a run prints, n events being applied before it
+abbrev pub printedOn : ℕ → Traced → ℕ → List ℕ
+printedOn n r size = r .lines ++ lastLine (r .why) (size - r .at) (n + r .applied) (r .after .growth)
+
+-- what is still printed for the input that is left, n events being applied
+abbrev pub remaining : ℕ → Conn → List ℕ → List ℕ
+remaining n c s = printedOn n (runs (allowance - n) c s 0 n endless) (length s)
+
+-- where a run that stopped so is the last, whatever comes after the input that there was: nothing may come where it was short, and where it
+-- stopped for room it goes on
+abbrev pub IsLast : List ℕ → Stop → Type 0
+IsLast more stop.Short = more ≡ []
+IsLast more stop.Bad = Unit {0}
+IsLast more stop.Spent = Unit {0}
+IsLast more stop.Full = ⊥
+IsLast more stop.Refused = Unit {0}

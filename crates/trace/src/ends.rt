@@ -1,11 +1,8 @@
-// How a trace starts and ends: its settings, its last line, and what is kept of one part for the next.
+// How a trace starts and ends: its settings and its last line.
 ghost use mathlib.Core.Path.{_≡_};
-ghost use mathlib.Core.List.{_++_};
-ghost use Prim.Native.Nat.{_≤_};
-ghost use lib.ListN.{length, drop};
 ghost use Rattle.rules.specs.Settings.{checked};
 ghost use Rattle.trace_events.specs.Format.{settingsAt};
-ghost use Rattle.trace.specs.Output.{sizesOf, judgedAs, begunAs, Finishes, kept};
+ghost use Rattle.trace.specs.Output.{sizesOf, judgedAs, begunAs, Finishes};
 use crate::Stop;
 use rules::Checked;
 use rules::Config;
@@ -20,8 +17,7 @@ pub struct Sizes {
     pub pool: usize,
 }
 
-// Settings that a trace may have, what they ask for and the place after them; or why no event is reached. An input that ends at
-// Short is unreadable.
+// Settings that a trace may have, what they ask for and the place after them; or why no event is reached.
 pub enum Begun {
     Fine(Settings, Sizes, usize),
     Stop(Stop),
@@ -61,14 +57,14 @@ fn judge(settings: Settings, next: usize) -> Begun
     }
 }
 
-// How a trace begins.
+// How a trace begins, of which a hundred bytes are here or all of it: settings that it ends within are unreadable.
 pub fn begin(src: &[u8]) -> Begun
     ensures { λ r. ⌜ r ≡ begunAs (settingsAt (now (src .entry))) ⌝ }
 {
     let read = trace_events::read_settings(src);
     match read {
         Preamble::Settings(settings, next) => judge(settings, next),
-        Preamble::Short => Begun::Stop(Stop::Short),
+        Preamble::Short => Begun::Stop(Stop::Bad),
         Preamble::Bad => Begun::Stop(Stop::Bad),
     }
 }
@@ -90,25 +86,4 @@ pub fn finish(out: &mut [u8], put: usize, stop: Stop, left: usize, applied: u64,
         Stop::Full => Put::Full,
         Stop::Refused => trace_lines::config_line(out, put),
     }
-}
-
-// Moves the bytes between two places to the front, and returns how many they are: none where they are not all there.
-pub fn keep_rest(src: &mut [u8], from: usize, to: usize) -> usize
-    ensures { λ r. ⌜ r ≡ length (kept (now (src .entry)) from to) ⌝ }
-    ensures { λ r. ⌜ now (src .exit) ≡ kept (now (src .entry)) from to ++ drop r (now (src .entry)) ⌝ }
-    ensures { λ r. ⌜ r ≤ length (now (src .entry)) ⌝ }
-{
-    if to < from {
-        return 0;
-    }
-    if src.len() < to {
-        return 0;
-    }
-    let n = to - from;
-    let mut i = 0;
-    while i < n {
-        src[i] = src[from + i];
-        i = i + 1;
-    }
-    n
 }

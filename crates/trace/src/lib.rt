@@ -6,7 +6,6 @@ pub use ends::Begun;
 pub use ends::Sizes;
 pub use ends::begin;
 pub use ends::finish;
-pub use ends::keep_rest;
 ghost use mathlib.Core.Path.{_≡_};
 ghost use mathlib.Core.Bool.{true};
 ghost use Prim.Native.Nat.{_+_, _-_, _≤_, _<_, min};

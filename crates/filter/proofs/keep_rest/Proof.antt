@@ -1,13 +1,13 @@
--- `trace::ends::keep_rest` meets its contract. The loop's invariant: the bytes passed stand at the front, and the others where they
+-- `filter::keep_rest` meets its contract. The loop's invariant: the bytes passed stand at the front, and the others where they
 -- were. The measure is the bytes left. Assumes nothing.
 use mathlib.Core.Path.{_≡_, refl}
 use mathlib.Core.List.{_++_}
 use Prim.Native.Nat.{_+_, _-_, _≤_}
 use lib.ListN.{length, take, drop, length-set}
-use Rattle.trace.proofs.Keeping.{moved, none-before, none-there, all-kept}
+use Rattle.filter.proofs.Keeping.{moved, none-before, none-there, all-kept}
 use native.Mathlib.Omega.{arith}
-use Rattle.trace.proofs.ends.keep_rest.Statement.{statement}
-use Rattle.trace.proofs.ends.keep_rest.Tie as tie
+use Rattle.filter.proofs.keep_rest.Statement.{statement}
+use Rattle.filter.proofs.keep_rest.Tie as tie
 
 abbrev Inv-loop : tie.InvT-loop
 Inv-loop src₀ from to n i₀ src i = (src ≡ take i (drop from src₀) ++ drop i src₀) × (i ≤ n) × (from + n ≤ length src₀) × (length src ≡ length src₀)

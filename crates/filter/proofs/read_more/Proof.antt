@@ -1,9 +1,9 @@
--- `replay::read_more` meets its contract: a read changes nothing before its place. Assumes nothing.
+-- `filter::read_more` meets its contract: a read changes nothing before its place. Assumes nothing.
 use borrow.Author.Needs.{needs}
 use native.Mathlib.Omega.{arith}
-use Rattle.replay.proofs.Feeding.{front-stays}
-use Rattle.replay.proofs.read_more.Statement.{statement}
-use Rattle.replay.proofs.read_more.Tie as tie
+use Rattle.filter.proofs.Feeding.{front-stays}
+use Rattle.filter.proofs.read_more.Statement.{statement}
+use Rattle.filter.proofs.read_more.Tie as tie
 
 sub-read : tie.Need-sub-read
 sub-read c = search needs

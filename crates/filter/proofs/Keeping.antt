@@ -10,7 +10,7 @@ use lib.Dec.{leb}
 use lib.ListN.{length, getD, take, drop, set, length-drop}
 use lib.Seq.{length-take-le, take-suc, drop-cons, append-snoc, getD-append-add, getD-drop, set-append-seam}
 use borrow.Author.Tests.{le-leb, lt-leb}
-use Rattle.trace.specs.Output.{kept}
+use Rattle.filter.specs.Parts.{kept}
 
 -- one byte more
 module _ (s : List ℕ) (from i : ℕ) (h : from + i < length s) where
