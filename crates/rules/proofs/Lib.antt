@@ -1,3 +1,4 @@
 -- Laws and worked examples of the rules.
 pub mod Lists
+pub mod Counts
 pub mod Examples

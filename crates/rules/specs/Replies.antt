@@ -29,6 +29,11 @@ number reply.Type = 12
 number reply.Body = 13
 number reply.Size = 14
 
+-- How many bytes a read's value counts: none at reply 1, where it is `-`. Contracts and theorems ask it, no rule does.
+abbrev pub countOf : Value → ℕ
+countOf (value.Of n) = n
+countOf value.None = 0
+
 -- "nothing changed": the replies 6 to 10, 13 and 14. Contracts and theorems ask it, no rule does.
 abbrev pub leavesAll : Reply → Bool
 leavesAll reply.Done = false

@@ -2,7 +2,7 @@
 ghost use mathlib.Core.Path.{_≡_};
 ghost use Prim.Native.Nat.{_≤_};
 ghost use Rattle.rules.specs.Settings.{checked, checkedLast, configOf, modeOf};
-ghost use Rattle.rules.specs.Replies.{number};
+ghost use Rattle.rules.specs.Replies.{number, countOf};
 use frame::header::DEFAULT_CREDIT;
 
 // The ten numbers of a connection as they are typed.
@@ -209,6 +209,18 @@ impl Reply {
             Reply::Type => 12,
             Reply::Body => 13,
             Reply::Size => 14,
+        }
+    }
+}
+
+impl Value {
+    // How many bytes the value of a read counts.
+    pub fn count(self) -> u32
+        ensures { λ r. ⌜ r ≡ countOf self ⌝ }
+    {
+        match self {
+            Value::Of(n) => n,
+            Value::None => 0,
         }
     }
 }
