@@ -36,12 +36,12 @@ module _ (c : Connection) (t : List ℕ) (m : Memory) (t′ : List ℕ) (e : End
   end-follows : (l p : List ℕ) → Valid c t l p → Follows c t l p (end (absOf c t l p) r) d t′ l p
   end-follows l p v =
       becomes-follows c t l p m (map endEntry (slotsOf (c .memory) t l p)) t′ l p (e l p (v .memory)) (c .rtt) true (c .«next_id») false (c .growth)
-      (v .fresh .parity) (none-below (c .config .mode) (c .«next_id») (slotsOf (c .memory) t l p)) (bareAnswer r true) _ 0
-      (record { reply = refl; slot = refl; value = refl; sent = refl; wakes = refl }) refl
+      (v .fresh .parity) (none-below (c .config .mode) (c .«next_id») (slotsOf (c .memory) t l p)) (bareAnswer r true) _
+      (record { reply = refl; slot = refl; value = refl; sent = refl; wakes = refl })
 
   pub end-handles : Over c t r (answered (rebuilt c (c .rtt) true (c .«next_id») false (c .growth) m) (bareAnswer r true)) t′
   end-handles l p goes = record {
     steps = end-follows l p;
     refuses = λ x. never (sym x ∙ goes);
-    silent = λ x. (refl, refl);
+    silent = λ x. refl;
   }

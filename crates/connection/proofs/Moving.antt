@@ -3,7 +3,6 @@ use mathlib.Core.Path.{_≡_, refl}
 use mathlib.Core.Bool.{Bool, true}
 use mathlib.Core.List.{List}
 use Prim.Native.Nat.{ℕ}
-use lib.ListN.{length}
 use Rattle.rtt.specs.declared.Rtt.{Rtt}
 use Rattle.rules.specs.Replies.{Outcome}
 use Rattle.rules.specs.State.{Entry, Conn, isOwn, withPings, withOpenWait}
@@ -54,16 +53,15 @@ module _ (c : Connection) (t l p : List ℕ) (m : Memory) (es : List Entry) (t�
 
     -- with own ids below the next one it follows a rule that leaves these slots
     pub becomes-follows : isOwn (c .config .mode) (record { 0 = next }) ≡ true → Below (c .config .mode) next es
-        → (a : Answer) (o : Outcome) (n : ℕ) → Says a o → n ≡ length (o .bytes)
+        → (a : Answer) (o : Outcome) → Says a o
         → Follows c t l p
         (gives o (record { config = configOf (c .config) (c .memory); pings = r; ended = ended; nextId = next; openWait = wait; growth = growth; slots = es }))
-        (record { connection = rebuilt c r ended next wait growth m; answer = a; read = n }) t′ l′ p′
-    becomes-follows parity below a o n says read = record {
+        (answered (rebuilt c r ended next wait growth m) a) t′ l′ p′
+    becomes-follows parity below a o says = record {
       valid = record { memory = b .valid; fresh = record { parity = parity; below = rw (b .slots) below } };
       after = after;
       advances = b .advances;
       says = says;
-      read = read;
     }
 
 -- memory that stays
@@ -76,4 +74,4 @@ pub answer-follows : (c : Connection) (t l p : List ℕ) (r : Rtt) (wait : Bool)
     (answered (rebuilt c r (c .ended) (c .«next_id») wait (c .growth) (c .memory)) a) t l p
 answer-follows c t l p r wait a v =
     becomes-follows c t l p (c .memory) (memory.slotsOf (c .memory) t l p) t l p (stays (c .memory) t l p (v .memory)) r (c .ended) (c .«next_id») wait (c .growth)
-    (v .fresh .parity) (v .fresh .below) a (outcomeOf a) 0 (told a) refl
+    (v .fresh .parity) (v .fresh .below) a (outcomeOf a) (told a)

@@ -36,7 +36,7 @@ giving-leaves reply.Size h = never (sym h)
 
 -- a refusal gives no header
 pub refused-gives : (c : Connection) (r : Reply) (s : List ℕ) → Gives (refused c r) s s
-refused-gives c r s = record { header = refl; silent = λ e. (refl, refl) }
+refused-gives c r s = record { header = refl; silent = λ e. refl }
 
 -- a rule that is another from a valid state
 pub same-handles : (c : Connection) (t l p : List ℕ) (rule rule′ : Conn → Result) (d : Done) (t′ l′ p′ : List ℕ)
@@ -63,11 +63,10 @@ module _ (c : Connection) (t l p : List ℕ) where
     after = refl;
     advances = nothing-advances (c .memory) t l p (v .memory);
     says = record { reply = refl; slot = refl; value = refl; sent = refl; wakes = refl };
-    read = refl;
   }
 
   pub refused-handles : (r : Reply) → Handles (λ x. refuse x r) c t l p (refused c r) t l p
-  refused-handles r = record { steps = refuse-follows r; refuses = λ e. (refl, refl, refl, refl); silent = λ e. (refl, refl) }
+  refused-handles r = record { steps = refuse-follows r; refuses = λ e. (refl, refl, refl, refl); silent = λ e. refl }
 
   module _ (sized : Bool) (call : Call) where
     pub wrong-size : sized ≡ false → Promised sized c t l p call (refused c reply.Size) t l p

@@ -75,7 +75,6 @@ module _ (c : Connection) (t l p : List ℕ) (rule : Result) (d : Done) (t₁ l�
   follows-same : Follows c t l p rule d t₁ l₁ p₁ → Follows c t l p rule e t₂ l₂ p₂ → Same d t₁ l₁ p₁ e t₂ l₂ p₂
   follows-same x y = record {
     answer = answers-same (d .answer) (e .answer) (rule .outcome) (x .says) (y .says);
-    read = x .read ∙ sym (y .read);
     alike =
         advanced-alike (d .connection) t₁ l₁ p₁ (x .valid) (e .connection) t₂ l₂ p₂ (y .valid) (x .after ∙ sym (y .after)) (c .memory) t
         (x .advances) (y .advances);
@@ -86,11 +85,11 @@ module _ (c : Connection) (t l p : List ℕ) (rule : Result) (d : Done) (t₁ l�
 module _ (sized : Bool) (c : Connection) (t l p : List ℕ) (call : Call) (d : Done) (t₁ l₁ p₁ : List ℕ) (e : Done) (t₂ l₂ p₂ : List ℕ)
     (x : Promised sized c t l p call d t₁ l₁ p₁) (y : Promised sized c t l p call e t₂ l₂ p₂) where
   -- what both leave as it was
-  left : d .answer ≡ e .answer → d .read ≡ e .read → leavesAll (d .answer .reply) ≡ true → Equal d t₁ l₁ p₁ e t₂ l₂ p₂
-  left answer read q =
+  left : d .answer ≡ e .answer → leavesAll (d .answer .reply) ≡ true → Equal d t₁ l₁ p₁ e t₂ l₂ p₂
+  left answer q =
       let a = x .refuses q in
       let b = y .refuses (rw answer at q) in
-      record { done = λ i. record { connection = (a .0 ∙ sym (b .0)) i; answer = answer i; read = read i }; table = a .1 ∙ sym (b .1); links = a .2 ∙ sym (b .2); pool = a .3 ∙ sym (b .3) }
+      record { done = λ i. record { connection = (a .0 ∙ sym (b .0)) i; answer = answer i }; table = a .1 ∙ sym (b .1); links = a .2 ∙ sym (b .2); pool = a .3 ∙ sym (b .3) }
 
   steps : sized ≡ true → Valid c t l p → Same d t₁ l₁ p₁ e t₂ l₂ p₂
   steps s v = follows-same c t l p (step (absOf c t l p) call) d t₁ l₁ p₁ e t₂ l₂ p₂ (x .steps s v) (y .steps s v)
@@ -98,10 +97,10 @@ module _ (sized : Bool) (c : Connection) (t l p : List ℕ) (call : Call) (d : D
   pub unique : Unique sized c t l p d t₁ l₁ p₁ e t₂ l₂ p₂
   unique = record {
     steps = steps;
-    refuses = λ s v q. let z = steps s v in left (z .answer) (z .read) q;
+    refuses = λ s v q. left (steps s v .answer) q;
     wrong = λ w.
         let z : d ≡ e = x .wrong w ∙ sym (y .wrong w) in
-        left (ap (λ (r : Done). r .answer) z) (ap (λ (r : Done). r .read) z) (rw (x .wrong w));
+        left (ap (λ (r : Done). r .answer) z) (rw (x .wrong w));
   }
 
 -- ---- lent output

@@ -34,9 +34,8 @@ rebuilt c r ended next wait growth m = record {
 abbrev pub withMemory : Connection → Memory → Connection
 withMemory c m = rebuilt c (c .rtt) (c .ended) (c .«next_id») (c .«open_wait») (c .growth) m
 
--- the connection, and an answer to a call that reads no bytes
 abbrev pub answered : Connection → Answer → Done
-answered c a = record { connection = c; answer = a; read = 0 }
+answered c a = record { connection = c; answer = a }
 
 -- the pings after a tick or a Ping frame, and what it answers
 abbrev pub pinged : Connection → PingStep → Done

@@ -51,9 +51,9 @@ refused c r = answered c (bareAnswer r false)
 abbrev pub outAfter : List ℕ → List ℕ → List ℕ
 outAfter bytes out = bytes ++ drop (length bytes) out
 
--- "replies but 0, 1 and 2 give neither" bytes read nor a header
+-- "replies but 0, 1 and 2 give neither": no header here; of bytes read the promise of a read speaks
 abbrev pub Silent : Done → Type 0
-Silent d = mayGive (d .answer .reply) ≡ false → (d .answer .sent ≡ Nothing) × (d .read ≡ 0)
+Silent d = mayGive (d .answer .reply) ≡ false → d .answer .sent ≡ Nothing
 
 -- "Lent output changes only in the bytes read and in the 12 of a header given"
 pub record Gives (d : Done) (s s′ : List ℕ) : Type 0 where
@@ -74,10 +74,9 @@ pub record Follows (c : Connection) (t l p : List ℕ) (rule : Result) (d : Done
   pub after : absOf (d .connection) t′ l′ p′ ≡ rule .after
   pub advances : Advances (c .memory) t (d .connection .memory) t′
   pub says : Says (d .answer) (rule .outcome)
-  pub read : d .read ≡ length (rule .outcome .bytes)
 
--- A rule is handled: from a valid state the result is the rule's; a refusal leaves all as it was; and a header or bytes are given only
--- where the reply may give them.
+-- A rule is handled: from a valid state the result is the rule's; a refusal leaves all as it was; and a header is given only
+-- where the reply may give one.
 pub record Handles (rule : Conn → Result) (c : Connection) (t l p : List ℕ) (d : Done) (t′ l′ p′ : List ℕ) : Type 0 where
   pub steps : Valid c t l p → Follows c t l p (rule (absOf c t l p)) d t′ l′ p′
   pub refuses : leavesAll (d .answer .reply) ≡ true → (d .connection ≡ c) × (t′ ≡ t) × (l′ ≡ l) × (p′ ≡ p)

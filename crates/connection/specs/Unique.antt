@@ -26,7 +26,6 @@ pub record Alike (c : Connection) (t l p : List ℕ) (c′ : Connection) (t′ l
 -- the answers too
 pub record Same (d : Done) (t l p : List ℕ) (d′ : Done) (t′ l′ p′ : List ℕ) : Type 0 where
   pub answer : d .answer ≡ d′ .answer
-  pub read : d .read ≡ d′ .read
   pub alike : Alike (d .connection) t l p (d′ .connection) t′ l′ p′
 
 -- cell for cell

@@ -41,11 +41,10 @@ pub struct Connection {
     pub ended: bool,
 }
 
-// The connection after a call, what the call answers, and how many bytes it put into the lent output.
+// The connection after a call, and what the call answers.
 pub struct Done {
     pub connection: Connection,
     pub answer: Answer,
-    pub read: u32,
 }
 
 // Whether a call goes on to its rule, or why not.
@@ -80,7 +79,6 @@ pub fn pinged(c: Connection, step: PingStep) -> Done
     Done {
         connection: Connection { rtt, ..c },
         answer,
-        read: 0,
     }
 }
 
@@ -110,7 +108,6 @@ pub fn refuse(c: Connection, reply: Reply) -> Done
     Done {
         connection: c,
         answer,
-        read: 0,
     }
 }
 
@@ -182,6 +179,5 @@ pub fn drop_all_streams(c: Connection, table: &mut [u64], reply: Reply) -> Done
             ..c
         },
         answer,
-        read: 0,
     }
 }

@@ -73,7 +73,7 @@ module _ (c : Connection) (t l : List ℕ) (i : Slot) (row : Row) (r : Removed) 
       leaves : (o : Answer) (after : List Entry) → Becomes (c .memory) t after m₂ t₂ l₂ p → Low after
           → Follows c t l p (gives (outcomeOf o) (withSlots (withGrowth (absOf c t l p) growth) after)) (result o) t₂ l₂ p
       leaves o after b low =
-          becomes-follows c t l p m₂ after t₂ l₂ p b (c .rtt) (c .ended) (c .«next_id») (c .«open_wait») growth (v .fresh .parity) low o (outcomeOf o) 0 (told o) refl
+          becomes-follows c t l p m₂ after t₂ l₂ p b (c .rtt) (c .ended) (c .«next_id») (c .«open_wait») growth (v .fresh .parity) low o (outcomeOf o) (told o)
 
       place-follows : (q : Place) → find es (row .stream .id) ≡ q → Removes (c .memory) t i (foundOf q) r t₁
           → Follows c t l p (dropAt q (withGrowth (absOf c t l p) growth) (i .0)) (result (r .answer)) t₂ l₂ p

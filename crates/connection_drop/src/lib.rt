@@ -71,7 +71,6 @@ fn release(c: Connection, table: &mut [u64], links: &mut [u32], slot: Slot, row:
             ..c
         },
         answer,
-        read: 0,
     }
 }
 

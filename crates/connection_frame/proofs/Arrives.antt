@@ -46,7 +46,7 @@ module _ (c : Connection) (t l p : List ℕ) where
   moves rule o m t′ l′ p′ i e same given f =
       acted c t l p rule (settled c (record { memory = m; answer = o })) t′ l′ p′ given
       (λ v. rw same (becomes-follows c t l p m (set S i e) t′ l′ p′ (f v .1) (c .rtt) (c .ended) (c .«next_id») (waitsOn (c .«open_wait») o) (c .growth)
-      (v .fresh .parity) (below-set (c .config .mode) (c .«next_id») S i e (f v .0) (v .fresh .below)) o (outcomeOf o) 0 (told o) refl))
+      (v .fresh .parity) (below-set (c .config .mode) (c .«next_id») S i e (f v .0) (v .fresh .below)) o (outcomeOf o) (told o)))
 
   module _ (h : Header) (body : List ℕ) (now : ℕ) (f : Which) (finds : Finds t (c .memory .slots) (h .«stream_id») f) (n : length body ≡ bodyLength (h .tag) (h .length .0)) where
     abbrev row : Row

@@ -96,7 +96,6 @@ fn settle(c: Connection, applied: Applied) -> Done
             ..c
         },
         answer,
-        read: 0,
     }
 }
 

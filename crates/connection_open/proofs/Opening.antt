@@ -108,8 +108,8 @@ module _ (c : Connection) (t l p : List ℕ) where
         becomes-follows c t l p m′ (set es (i .0) e) t′ l′ p′
         (make (v .memory) (f .below) (f .free) (rw (f .id) (next-new (absOf c t l p) (v .fresh))) (omega (arith, v .memory .within)))
         (c .rtt) (c .ended) after (c .«open_wait») (c .growth)
-        (rw (f .next) (own-next (c .config .mode) (c .«next_id») (v .fresh .parity))) (below v f) (opened i (s .id .0)) _ 0
-        (record { reply = refl; slot = refl; value = refl; sent = refl; wakes = refl }) refl)
+        (rw (f .next) (own-next (c .config .mode) (c .«next_id») (v .fresh .parity))) (below v f) (opened i (s .id .0)) _
+        (record { reply = refl; slot = refl; value = refl; sent = refl; wakes = refl }))
 
 -- ---- what is decided
 

@@ -70,7 +70,6 @@ pub(crate) fn act(
                     ..c
                 },
                 answer,
-                read: 0,
             }
         }
         Opening::Refuse(reply) => connection::refuse(c, reply),
@@ -84,7 +83,6 @@ pub(crate) fn act(
                     ..c
                 },
                 answer,
-                read: 0,
             }
         }
     }

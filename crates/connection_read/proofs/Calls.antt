@@ -1,14 +1,16 @@
 -- How a read comes to its promise: by a refusal, with nothing to read, or by its rule. Assumes nothing.
-use mathlib.Core.Path.{_≡_, refl, _∙_}
+use mathlib.Core.Path.{_≡_, refl, ap, _∙_}
 use mathlib.Core.Bool.{Bool, true}
 use mathlib.Core.List.{List, [], _∷_}
 use Prim.Native.Nat.{ℕ}
 use native.Mathlib.Omega.{arith}
 use lib.ListN.{length}
+use Rattle.rules.specs.Replies.{countOf}
 use Rattle.rules.specs.State.{Conn}
 use Rattle.rules.specs.Ending.{Result}
 use Rattle.rules.specs.Step.{step, read}
 use Rattle.rules.specs.declared.Reply.{Reply}
+use Rattle.rules.proofs.Counts.{read-counts}
 use Rattle.table.specs.declared.row.Row.{Row}
 use Rattle.handlers.specs.Locals.{isShut, nothingRead}
 use Rattle.connection.specs.Abstract.{absOf, Valid}
@@ -32,6 +34,7 @@ module _ (c : Connection) (t l p out : List ℕ) where
     bytes = λ v. rw (same v) (r .bytes v);
     within = r .within;
     past = r .past;
+    quiet = r .quiet;
   }
 
   -- the answer of a read that gives nothing since the connection ended
@@ -43,6 +46,7 @@ module _ (c : Connection) (t l p out : List ℕ) where
     bytes = λ v. rw (shut-rule c t l p i (length out) time shut);
     within = omega arith;
     past = refl;
+    quiet = λ e. refl;
   }
 
 -- ---- the call
@@ -59,11 +63,12 @@ module _ (c : Connection) (t l p : List ℕ) (i : ℕ) (out : List ℕ) (time : 
       let kept = handle-shut c t l p sized (read time i (length out)) time i (ruleOf (absOf c t l p) i (length out) time) r e (λ v. refl) in (
         kept,
         record {
-          bytes = λ s v. rw (no-bytes (step (absOf c t l p) (read time i (length out)) .outcome .bytes) (kept .steps s v .read));
+          bytes = λ s v. rw (no-bytes (step (absOf c t l p) (read time i (length out)) .outcome .bytes) (ap countOf (kept .steps s v .says .value) ∙ read-counts (absOf c t l p) time i (length out)));
           within = omega arith;
           past = refl;
+          quiet = λ q. refl;
           header = refl;
-          silent = λ q. (refl, refl);
+          silent = λ q. refl;
         },
       )
 
@@ -79,6 +84,7 @@ module _ (c : Connection) (t l p : List ℕ) (i : ℕ) (out : List ℕ) (time : 
           bytes = λ s v. rw (h .2 v) (r .bytes v);
           within = r .within;
           past = r .past;
+          quiet = r .quiet;
           header = put;
           silent = r .handles .silent;
         },

@@ -6,7 +6,7 @@ use Prim.Native.Nat.{ℕ, min, _≤_}
 use native.Mathlib.Omega.{arith}
 use lib.ListN.{length, take, drop, set, drop-of-length-le}
 use lib.Seq.{length-take-le, drop-at}
-use Rattle.rules.specs.Replies.{mayGive}
+use Rattle.rules.specs.Replies.{countOf, mayGive}
 use Rattle.rules.specs.State.{Entry, entry}
 use Rattle.table.specs.declared.row.Row.{Row}
 use Rattle.handlers.specs.Locals.{performRead}
@@ -14,8 +14,9 @@ use Rattle.handlers.specs.declared.ReadStep.{ReadStep}
 use Rattle.memory.specs.Moves.{held, Drained, Drains}
 use Rattle.memory.specs.Slots.{slotsOf}
 use Rattle.memory.specs.declared.Memory.{Memory}
+use Rattle.memory.proofs.Laws.{never}
 use Rattle.connection.specs.Abstract.{absOf, Valid}
-use Rattle.connection.specs.Parts.{rebuilt}
+use Rattle.connection.specs.Parts.{rebuilt, answered}
 use Rattle.connection.specs.Promises.{Follows}
 use Rattle.connection.specs.declared.Connection.{Connection}
 use Rattle.connection.specs.declared.Done.{Done}
@@ -26,7 +27,7 @@ use Rattle.connection_read.specs.Promises.{Reads, Draws}
 
 -- the connection with the step's growth and this memory, and what the step answers
 abbrev pub taken : Connection → ReadStep → Memory → Done
-taken c s m = record { connection = rebuilt c (c .rtt) (c .ended) (c .«next_id») (c .«open_wait») (s .growth) m; answer = s .answer; read = s .count }
+taken c s m = answered (rebuilt c (c .rtt) (c .ended) (c .«next_id») (c .«open_wait») (s .growth) m) (s .answer)
 
 -- n bytes at most are there on either side, so all n are drawn
 all-drawn : (n a b : ℕ) → a ≡ n → n ≤ b → min a b ≡ n
@@ -39,36 +40,39 @@ module _ (c : Connection) (t l p : List ℕ) (i : ℕ) (s : ReadStep) (m′ : Me
   abbrev x : Entry
   x = entry es i
 
-  drawn-follows : (v : Valid c t l p) (row : Row) (w : Draws c t l p i row s) (out out′ : List ℕ) → Drained (c .memory) t l p i (s .stream) out (s .count) m′ t′ l′ out′
+  abbrev count : ℕ
+  count = countOf (s .answer .value)
+
+  drawn-follows : (v : Valid c t l p) (row : Row) (w : Draws c t l p i row s) (out out′ : List ℕ) → Drained (c .memory) t l p i (s .stream) out count m′ t′ l′ out′
       → Follows c t l p (performRead (absOf c t l p) (record { 0 = i }) x s) (taken c s m′) t′ l′ p
   unfolding performRead
   drawn-follows v row w out out′ d =
       rw (w .follows .held)
-      (becomes-follows c t l p m′ (set es i (held (s .stream) (x .listed) (drop (s .count) (x .bytes)))) t′ l′ p (d .moved)
+      (becomes-follows c t l p m′ (set es i (held (s .stream) (x .listed) (drop count (x .bytes)))) t′ l′ p (d .moved)
       (c .rtt) (c .ended) (c .«next_id») (c .«open_wait») (s .growth) (v .fresh .parity)
-      (below-replaced (c .config .mode) (c .«next_id») es i (s .stream) (x .listed) (drop (s .count) (x .bytes)) (w .follows) (v .fresh .below))
-      (s .answer) _ (s .count) (record { reply = refl; slot = refl; value = refl; sent = refl; wakes = refl })
-      (sym (length-take-le (s .count) (x .bytes) (w .unread))))
+      (below-replaced (c .config .mode) (c .«next_id») es i (s .stream) (x .listed) (drop count (x .bytes)) (w .follows) (v .fresh .below))
+      (s .answer) _ (record { reply = refl; slot = refl; value = refl; sent = refl; wakes = refl }))
 
   pub take-reads : (row : Row) → mayGive (s .answer .reply) ≡ true → (Valid c t l p → Draws c t l p i row s)
-      → (out : List ℕ) → s .count ≤ length out → (o : List ℕ) → length o ≡ length (take (s .count) out)
-      → Drains (c .memory) t l p i row (s .stream) (take (s .count) out) m′ t′ l′ o
-      → Reads (λ y. performRead y (record { 0 = i }) (entry (y .slots) i) s) c t l p out (taken c s m′) t′ l′ (o ++ drop (s .count) out)
+      → (out : List ℕ) → count ≤ length out → (o : List ℕ) → length o ≡ length (take count out)
+      → Drains (c .memory) t l p i row (s .stream) (take count out) m′ t′ l′ o
+      → Reads (λ y. performRead y (record { 0 = i }) (entry (y .slots) i) s) c t l p out (taken c s m′) t′ l′ (o ++ drop count out)
   unfolding performRead
   take-reads row gives draws out room o same drains = record {
     handles = acted c t l p (λ y. performRead y (record { 0 = i }) (entry (y .slots) i) s) (taken c s m′) t′ l′ p gives
-        (λ v. drawn-follows v row (draws v) (take (s .count) out) o (drained v));
+        (λ v. drawn-follows v row (draws v) (take count out) o (drained v));
     bytes = λ v.
-        let none : drop (s .count) (take (s .count) out) ≡ [] = drop-of-length-le (take (s .count) out) {i = s .count} (omega (arith, front)) in
-        rw (drained v .gave, none, append-nil, length-take-le (s .count) (x .bytes) (draws v .unread));
+        let none : drop count (take count out) ≡ [] = drop-of-length-le (take count out) {i = count} (omega (arith, front)) in
+        rw (drained v .gave, none, append-nil, length-take-le count (x .bytes) (draws v .unread));
     within = room;
-    past = drop-at o (drop (s .count) out) (s .count) (same ∙ front);
+    past = drop-at o (drop count out) count (same ∙ front);
+    quiet = λ e. never (sym gives ∙ e);
   }
     where
-      front : length (take (s .count) out) ≡ s .count
-      front = length-take-le (s .count) out room
+      front : length (take count out) ≡ count
+      front = length-take-le count out room
 
-      drained : Valid c t l p → Drained (c .memory) t l p i (s .stream) (take (s .count) out) (s .count) m′ t′ l′ o
+      drained : Valid c t l p → Drained (c .memory) t l p i (s .stream) (take count out) count m′ t′ l′ o
       drained v =
           let w = draws v in
-          rw (all-drawn (s .count) (length (take (s .count) out)) (length (x .bytes)) front (w .unread)) at (drains (w .loaded) (v .memory) (w .below) (w .follows))
+          rw (all-drawn count (length (take count out)) (length (x .bytes)) front (w .unread)) at (drains (w .loaded) (v .memory) (w .below) (w .follows))

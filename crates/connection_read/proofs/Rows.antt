@@ -6,7 +6,7 @@ use Prim.Native.Nat.{ℕ, min, _≤_}
 use native.Mathlib.Omega.{arith}
 use lib.Dec.{eqb}
 use lib.ListN.{length}
-use Rattle.rules.specs.Replies.{mayGive}
+use Rattle.rules.specs.Replies.{countOf, mayGive}
 use Rattle.stream.specs.States.{canRead}
 use Rattle.stream.specs.Streams.{withWaits, sendWindowUpdate}
 use Rattle.stream.specs.declared.Stream.{Stream}
@@ -29,17 +29,17 @@ use Rattle.connection.specs.declared.Connection.{Connection}
 use Rattle.connection.specs.Parts.{Holds}
 use Rattle.connection_read.specs.Promises.{stepOf, ruleOf, Draws}
 
--- the step counts n bytes, leaves the id, and its reply may give bytes
+-- the step reads n bytes at most, leaves the id, and its reply may give bytes
 pub record Steps (u : Updated) (n : ℕ) (s : ReadStep) : Type 0 where
-  pub count : s .count ≡ n
+  pub count : countOf (s .answer .value) ≤ n
   pub id : s .stream .id ≡ u .stream .id
   pub giving : mayGive (s .answer .reply) ≡ true
 
 ended-steps : (i : Slot) (u : Updated) (n : ℕ) (a b : Bool) →
     Steps u n (readEnded i u n (cond a (cond b (reading.Wait (withWaits (u .stream) true (u .stream .writer))) (reading.Done (u .stream))) (reading.Done (u .stream))))
-ended-steps i u n true true = record { count = refl; id = refl; giving = refl }
-ended-steps i u n true false = record { count = refl; id = refl; giving = refl }
-ended-steps i u n false b = record { count = refl; id = refl; giving = refl }
+ended-steps i u n true true = record { count = omega arith; id = refl; giving = refl }
+ended-steps i u n true false = record { count = omega arith; id = refl; giving = refl }
+ended-steps i u n false b = record { count = omega arith; id = refl; giving = refl }
 
 read-steps : (i : Slot) (u : Updated) (unread asked : ℕ) → Steps u (min asked unread) (onRead i u unread asked)
 unfolding onRead
@@ -55,7 +55,7 @@ module _ (c : Connection) (i : ℕ) (row : Row) (asked time : ℕ) where
   steps : Steps updated (min asked (row .queue .unread)) (stepOf c slot row asked time)
   steps = read-steps slot updated (row .queue .unread) asked
 
-  pub step-room : stepOf c slot row asked time .count ≤ asked
+  pub step-room : countOf (stepOf c slot row asked time .answer .value) ≤ asked
   step-room = omega (arith, steps .count)
 
   pub step-giving : mayGive (stepOf c slot row asked time .answer .reply) ≡ true

@@ -4,6 +4,7 @@ use mathlib.Core.Bool.{Bool, true, false}
 use mathlib.Core.List.{List}
 use Prim.Native.Nat.{ℕ}
 use lib.ListN.{length, drop}
+use Rattle.rules.specs.Replies.{countOf}
 use Rattle.rules.specs.Step.{read}
 use Rattle.connection.specs.Abstract.{Valid}
 use Rattle.connection.specs.Promises.{Promised}
@@ -30,9 +31,12 @@ module _ (sized : Bool) (c : Connection) (t l p : List ℕ) (time i : ℕ) (out 
   -- and from any state, of a wrong size: as they were
   pub wrong-unique : sized ≡ false → (out₁ ≡ out₂) × (sent₁ ≡ sent₂)
   wrong-unique w = (
-    kept d out₁ (a .past) (ap (λ (z : Done). z .read) (x .wrong w)) ∙ sym (kept e out₂ (b .past) (ap (λ (z : Done). z .read) (y .wrong w))),
+    kept d out₁ (a .past) (ap counted (x .wrong w)) ∙ sym (kept e out₂ (b .past) (ap counted (y .wrong w))),
     headers (ap (λ (z : Done). z .answer) (both .wrong w .done)),
   )
     where
-      kept : (z : Done) (o : List ℕ) → drop (z .read) o ≡ drop (z .read) out → z .read ≡ 0 → o ≡ out
+      counted : Done → ℕ
+      counted z = countOf (z .answer .value)
+
+      kept : (z : Done) (o : List ℕ) → drop (counted z) o ≡ drop (counted z) out → counted z ≡ 0 → o ≡ out
       kept z o past none = rw none at past

@@ -1,6 +1,6 @@
 -- What a read promises, on every input and from a valid state.
 use mathlib.Core.Path.{_≡_}
-use mathlib.Core.Bool.{Bool, true}
+use mathlib.Core.Bool.{Bool, true, false}
 use mathlib.Core.List.{List}
 use Prim.Native.Nat.{ℕ, _≤_, _<_}
 use lib.ListN.{length, drop}
@@ -19,15 +19,20 @@ use Rattle.memory.specs.Slots.{slotsOf}
 use Rattle.connection.specs.Abstract.{absOf, Valid}
 use Rattle.connection.specs.Parts.{Holds}
 use Rattle.connection.specs.Promises.{sentAfter, outAfter, Silent, Handles}
-use Rattle.rules.specs.Replies.{mayGive}
+use Rattle.rules.specs.Replies.{countOf, mayGive}
 use Rattle.connection.specs.declared.Connection.{Connection}
 use Rattle.connection.specs.declared.Done.{Done}
+
+-- "replies but 0, 1 and 2 give neither": no bytes
+abbrev pub Quiet : Done → Type 0
+Quiet d = mayGive (d .answer .reply) ≡ false → countOf (d .answer .value) ≡ 0
 
 -- 01: "Lent output changes only in the bytes read and in the 12 of a header given; replies but 0, 1 and 2 give neither."
 pub record Outputs (sized : Bool) (c : Connection) (t l p : List ℕ) (time i : ℕ) (out sent : List ℕ) (d : Done) (out′ sent′ : List ℕ) : Type 0 where
   pub bytes : sized ≡ true → Valid c t l p → out′ ≡ outAfter (step (absOf c t l p) (read time i (length out)) .outcome .bytes) out
-  pub within : d .read ≤ length out
-  pub past : drop (d .read) out′ ≡ drop (d .read) out
+  pub within : countOf (d .answer .value) ≤ length out
+  pub past : drop (countOf (d .answer .value)) out′ ≡ drop (countOf (d .answer .value)) out
+  pub quiet : Quiet d
   pub header : sent′ ≡ sentAfter (d .answer .sent) sent
   pub silent : Silent d
 
@@ -37,8 +42,9 @@ pub record Outputs (sized : Bool) (c : Connection) (t l p : List ℕ) (time i : 
 pub record Reads (rule : Conn → Result) (c : Connection) (t l p out : List ℕ) (d : Done) (t′ l′ out′ : List ℕ) : Type 0 where
   pub handles : Handles rule c t l p d t′ l′ p
   pub bytes : Valid c t l p → out′ ≡ outAfter (rule (absOf c t l p) .outcome .bytes) out
-  pub within : d .read ≤ length out
-  pub past : drop (d .read) out′ ≡ drop (d .read) out
+  pub within : countOf (d .answer .value) ≤ length out
+  pub past : drop (countOf (d .answer .value)) out′ ≡ drop (countOf (d .answer .value)) out
+  pub quiet : Quiet d
 
 -- "first the window update .., then the oldest min(asked, unread) bytes": the step, read off the slot's row
 abbrev pub stepOf : Connection → Slot → Row → ℕ → ℕ → ReadStep
@@ -52,7 +58,7 @@ pub record Draws (c : Connection) (t l p : List ℕ) (i : ℕ) (row : Row) (s : 
   pub loaded : row ≡ rowAt t (c .memory .slots) i
   pub below : i < c .memory .slots
   pub follows : memory.Follows (entry (slotsOf (c .memory) t l p) i) (s .stream) (entry (slotsOf (c .memory) t l p) i .listed)
-  pub unread : s .count ≤ length (entry (slotsOf (c .memory) t l p) i .bytes)
+  pub unread : countOf (s .answer .value) ≤ length (entry (slotsOf (c .memory) t l p) i .bytes)
 
 abbrev pub Takes : Connection → List ℕ → List ℕ → List ℕ → ℕ → Row → ReadStep → List ℕ → Done → List ℕ → List ℕ → List ℕ → Type 0
 Takes c t l p i row s out d t′ l′ out′ =

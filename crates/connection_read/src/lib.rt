@@ -2,6 +2,7 @@
 ghost use mathlib.Core.Path.{_≡_};
 ghost use Prim.Native.Nat.{_≤_};
 ghost use lib.ListN.{length};
+ghost use Rattle.rules.specs.Replies.{countOf};
 ghost use Rattle.rules.specs.Step.{read};
 ghost use Rattle.connection.specs.Promises.{sized, Promised};
 ghost use Rattle.connection_read.specs.Promises.{stepOf, Takes, ReadsRow, Outputs};
@@ -33,7 +34,7 @@ fn step_of(c: Connection, slot: Slot, row: Row, asked: usize, time: u64) -> Read
     handlers::read::on_read(slot, updated, queue.unread, asked)
 }
 
-// Moves as many bytes as the step counts, and keeps its stream and growth. `row` is what the slot holds.
+// Moves as many bytes as the answer's value counts, and keeps its stream and growth. `row` is what the slot holds.
 fn take(
     c: Connection,
     table: &mut [u64],
@@ -44,13 +45,15 @@ fn take(
     step: ReadStep,
     out: &mut [u8],
 ) -> Done
-    requires { ⌜ step .count ≤ length (now out) ⌝ }
+    requires { ⌜ countOf (step .answer .value) ≤ length (now out) ⌝ }
     ensures { λ r. ⌜ Takes c (now (table .entry)) (now (links .entry)) (now (pool .entry)) (slot .0) row step (now (out .entry)) r (now (table .exit)) (now (links .exit)) (now (out .exit)) ⌝ }
 {
-    let n = step.count as usize;
+    let answer = step.answer;
+    let value = answer.value;
+    let count = value.count();
+    let n = count as usize;
     let memory = c.memory
         .drain(table, links, pool, slot, row, step.stream, &mut out[..n]);
-    let answer = step.answer;
     Done {
         connection: Connection {
             growth: step.growth,
@@ -58,7 +61,6 @@ fn take(
             ..c
         },
         answer,
-        read: step.count,
     }
 }
 
@@ -81,7 +83,6 @@ fn read_row(
         return Done {
             connection: c,
             answer,
-            read: 0,
         };
     }
     let step = step_of(c, slot, row, out.len(), time);

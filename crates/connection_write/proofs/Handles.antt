@@ -73,7 +73,7 @@ module _ (c : Connection) (t l p : List ℕ) (i : ℕ) (row : Row) (h : Holds c 
       (becomes-follows c t l p m (set es i (held (k .stream) (row .listed) (entry es i .bytes))) t′ l p (stores l p (h .loaded) (v .memory) (h .below) f)
       (c .rtt) (c .ended) (c .«next_id») (c .«open_wait») (c .growth) (v .fresh .parity)
       (below-replaced (c .config .mode) (c .«next_id») es i (k .stream) (row .listed) (entry es i .bytes) f (v .fresh .below))
-      (k .answer) _ 0 (record { reply = refl; slot = refl; value = refl; sent = refl; wakes = refl }) refl)
+      (k .answer) _ (record { reply = refl; slot = refl; value = refl; sent = refl; wakes = refl }))
 
 -- a close of a held handle, by its step
 pub close-promised : (sized : Bool) (c : Connection) (t : List ℕ) (now i : ℕ) (row : Row) → handleOf sized (c .memory .slots) t i now ≡ Held row

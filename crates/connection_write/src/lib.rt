@@ -38,7 +38,6 @@ fn keep(
     Done {
         connection: Connection { memory, ..c },
         answer,
-        read: 0,
     }
 }
 

@@ -6,6 +6,7 @@ use mathlib.Core.List.{List, [], _∷_, _++_}
 use Prim.Native.Nat.{ℕ, _+_, _-_, _*_, _≤_}
 use lib.ListN.{length, take, drop}
 use Rattle.frame.specs.Header.{initialWindow}
+use Rattle.rules.specs.Replies.{countOf}
 use Rattle.rules.specs.State.{Entry, Conn, entry, one}
 use Rattle.rules.specs.Step.{Call, step, frame, read}
 use Rattle.rules.specs.declared.Settings.{Settings}
@@ -73,7 +74,7 @@ Given =
     (c : Connection) (t l p : List ℕ) (h : ℕ → Heard) → Lives c t l p h →
     (time i : ℕ) (out sent : List ℕ) (d : Done) (t′ l′ p′ out′ sent′ : List ℕ) → Promised true c t l p (read time i (length out)) d t′ l′ p′ →
     Outputs true c t l p time i out sent d out′ sent′ →
-    out′ ≡ take (d .read) (drop (length (h i .given)) (h i .taken)) ++ drop (d .read) out
+    out′ ≡ take (countOf (d .answer .value)) (drop (length (h i .given)) (h i .taken)) ++ drop (countOf (d .answer .value)) out
 
 -- "with a pool as large as the limit, and no more handles held (counting one that the frame would open) than M, no frame is
 -- refused for room"

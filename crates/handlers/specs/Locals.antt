@@ -19,7 +19,7 @@ use Rattle.stream.specs.declared.Written.{Written}
 use Rattle.stream.specs.declared.Written.the-variants as written
 use Rattle.stream.specs.declared.Sent.{Sent}
 use Rattle.stream.specs.declared.Sent.the-variants.{Frame, Nothing}
-use Rattle.rules.specs.Replies.{noWakes, bare}
+use Rattle.rules.specs.Replies.{noWakes, bare, countOf}
 use Rattle.rules.specs.State.{Entry, Conn, entry, withSlot, withGrowth, withNextId, withOpenWait, withStream}
 use Rattle.rules.specs.Ending.{Result, gives, refuse, end}
 use Rattle.rules.specs.Frames.{quiet, newEntry}
@@ -128,15 +128,15 @@ abbrev pub nothingRead : Slot → Answer
 nothingRead i = slotAnswer i reply.Done (value.Of 0) Nothing
 
 abbrev pub readEnded : Slot → Updated → ℕ → ReadEnd → ReadStep
-readEnded i u n (reading.Done s) = record { stream = s; growth = u .growth; count = n; answer = slotAnswer i reply.Done (value.Of n) (u .sent) }
-readEnded i u n (reading.Wait s) = record { stream = s; growth = u .growth; count = n; answer = slotAnswer i reply.Wait value.None (u .sent) }
+readEnded i u n (reading.Done s) = record { stream = s; growth = u .growth; answer = slotAnswer i reply.Done (value.Of n) (u .sent) }
+readEnded i u n (reading.Wait s) = record { stream = s; growth = u .growth; answer = slotAnswer i reply.Wait value.None (u .sent) }
 
 -- after the window step: "then the oldest min(asked, unread) bytes in their order; if that is 0: done with 0 in RecvClosed or
 -- Closed, else wait"
 unfoldable pub onRead : Slot → Updated → ℕ → ℕ → ReadStep
 onRead i u unread asked = readEnded i u (min asked unread) (stream.readEnd (u .stream) (min asked unread))
 
--- the oldest bytes of the entry e go out, as many as the step counts
+-- the oldest bytes of the entry e go out, as many as the answer's value counts
 unfoldable pub performRead : Conn → Slot → Entry → ReadStep → Result
 performRead c i e r =
     gives
@@ -147,9 +147,9 @@ performRead c i e r =
       header = r .answer .sent;
       body = [];
       wakes = r .answer .wakes;
-      bytes = take (r .count) (e .bytes);
+      bytes = take (countOf (r .answer .value)) (e .bytes);
     })
-    (withSlot (withGrowth c (r .growth)) (i .0) (readEntry e (r .stream) (r .count)))
+    (withSlot (withGrowth c (r .growth)) (i .0) (readEntry e (r .stream) (countOf (r .answer .value))))
 
 -- ---- drop
 

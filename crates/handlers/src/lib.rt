@@ -79,11 +79,10 @@ pub enum Opening {
     New(Slot, Stream, u32),
 }
 
-// What a read leaves and answers; `count` bytes are read.
+// What a read leaves and answers; as many bytes are read as the answer's value counts.
 pub struct ReadStep {
     pub stream: Stream,
     pub growth: u64,
-    pub count: u32,
     pub answer: Answer,
 }
 

@@ -45,7 +45,6 @@ fn read_ended(slot: Slot, updated: Updated, n: u32, reading: ReadEnd) -> ReadSte
             ReadStep {
                 stream,
                 growth: updated.growth,
-                count: n,
                 answer,
             }
         }
@@ -54,14 +53,13 @@ fn read_ended(slot: Slot, updated: Updated, n: u32, reading: ReadEnd) -> ReadSte
             ReadStep {
                 stream,
                 growth: updated.growth,
-                count: n,
                 answer,
             }
         }
     }
 }
 
-// What a read does once the window step is taken: `count` bytes are to be popped.
+// What a read does once the window step is taken: as many bytes are to be popped as the answer's value counts.
 pub fn on_read(slot: Slot, updated: Updated, unread: u32, asked: usize) -> ReadStep
     ensures { λ r. ⌜ r ≡ onRead slot updated unread asked ⌝ }
 {

@@ -9,11 +9,13 @@ use lib.Dec.{ltb}
 use lib.ListN.{length, take, drop, length-drop}
 use lib.Seq.{length-take-le, take-append-seam}
 use borrow.Author.Tests.{eq-eqb, ltb-true}
+use Rattle.rules.specs.Replies.{countOf}
 use Rattle.rules.specs.State.{Conn, entry, vacant}
 use Rattle.rules.specs.Ending.{Result, refuse}
 use Rattle.rules.specs.Step.{Call, step, timed, holding}
 use Rattle.rules.specs.Step as rules
 use Rattle.rules.specs.declared.Reply.the-variants as reply
+use Rattle.rules.proofs.Counts.{read-counts}
 use Rattle.memory.proofs.Laws.{sized-table, sized-links, sized-fits, entry-beyond}
 use Rattle.memory.specs.Counts.{tableFits, fits}
 use Rattle.connection.specs.Abstract.{absOf, Valid}
@@ -27,10 +29,11 @@ use Rattle.connection_frame.specs.Handles as frames
 use Rattle.rules.specs.Calls.{readRules, writeRules, closeRules, dropRules}
 use Rattle.stream.specs.declared.Sent.{Sent}
 use Rattle.connection_read.specs.Promises as reading
-use Rattle.trace_events.specs.Calls.{part, callOf, callOn}
+use Rattle.trace_events.specs.Calls.{part, callOf}
 use Rattle.trace_events.specs.declared.Event.{Event}
+use Rattle.trace_events.specs.declared.Kind.{Kind}
 use Rattle.trace_events.specs.declared.Kind.the-variants as kinds
-use Rattle.trace.specs.Applies.{slotOf, Applied, Applies, sized}
+use Rattle.trace.specs.Applies.{slotOf, bytesRead, Applied, Applies, sized}
 use Rattle.trace.proofs.Silent.{Silent, Headless, tick-silent, frame-silent, open-silent, open-headless, gone-silent, gone-headless, write-silent, close-silent, drop-silent}
 
 -- ---- a slot above every K
@@ -53,11 +56,12 @@ module _ (c : Connection) (t l p sent : List ℕ) where
   module _ (x : Call) (d : Done) (t′ l′ p′ sent′ bytes′ : List ℕ) where
     -- a call that reads no bytes
     quiet : Follows c t l p (step (absOf c t l p) x) d t′ l′ p′ → sent′ ≡ sentAfter (d .answer .sent) sent → Silent (step (absOf c t l p) x)
-        → Applied c t l p sent x d t′ l′ p′ sent′ bytes′
+        → Applied c t l p sent x 0 d t′ l′ p′ sent′ bytes′
     quiet f h n = record {
       follows = f;
       header = h;
-      bytes = ap (λ (k : ℕ). take k bytes′) (f .read ∙ ap length (n .none)) ∙ sym (n .none);
+      bytes = sym (n .none);
+      all = sym (ap length (n .none));
     }
 
     -- a call that gives no header leaves the twelve bytes
@@ -91,35 +95,35 @@ module _ (c : Connection) (t l p sent : List ℕ) where
   -- ---- each event
 
   module _ (s : List ℕ) (e : Event) (d : Done) (t′ l′ p′ sent′ bytes′ : List ℕ) where
-    -- the event's call x, which reads no bytes and is made as y: another name of its slot at most
-    made-as : (x y : Call) (right : Bool) → callOn s e ≡ x
-        → (Valid c t l p → step (absOf c t l p) y ≡ step (absOf c t l p) x)
+    -- the call of an event of this kind, which reads no bytes and is made as y: another name of its slot at most
+    made-as : (kind : Kind) (y : Call) (right : Bool) → e .kind ≡ kind → bytesRead kind (d .answer .value) ≡ 0
+        → (Valid c t l p → step (absOf c t l p) y ≡ step (absOf c t l p) (callOf s (e .now) (e .next) kind))
         → (Valid c t l p → length sent ≡ 12 → right ≡ true)
-        → Silent (step (absOf c t l p) x)
-        → (Follows c t l p (step (absOf c t l p) x) d t′ l′ p′ → sent′ ≡ sentAfter (d .answer .sent) sent)
+        → Silent (step (absOf c t l p) (callOf s (e .now) (e .next) kind))
+        → (Follows c t l p (step (absOf c t l p) (callOf s (e .now) (e .next) kind)) d t′ l′ p′ → sent′ ≡ sentAfter (d .answer .sent) sent)
         → Promised right c t l p y d t′ l′ p′ → Applies c t l p sent s e d t′ l′ p′ sent′ bytes′
-    made-as x y right q same fit n h k v w =
+    made-as kind y right q none same fit n h k v w =
         let f = subst (λ (r : Result). Follows c t l p r d t′ l′ p′) (same v) (k .steps (fit v w) v) in
-        rw q (quiet x d t′ l′ p′ sent′ bytes′ f (h f) n)
+        rw (q, none) (quiet (callOf s (e .now) (e .next) kind) d t′ l′ p′ sent′ bytes′ f (h f) n)
 
     pub tick-applies : e .kind ≡ kinds.Tick → Promised (sentSized c (length t) (length sent)) c t l p (rules.tick (e .now)) d t′ l′ p′
         → sent′ ≡ sentAfter (d .answer .sent) sent → Applies c t l p sent s e d t′ l′ p′ sent′ bytes′
     tick-applies q k h =
-        made-as (rules.tick (e .now)) _ _ (ap (callOf s (e .now) (e .next)) q) (λ v. refl) sent-right (tick-silent (absOf c t l p) (e .now)) (λ f. h) k
+        made-as kinds.Tick _ _ q refl (λ v. refl) sent-right (tick-silent (absOf c t l p) (e .now)) (λ f. h) k
 
     pub frame-applies : (head body : ℕ) → e .kind ≡ kinds.Frame head body → head + 12 ≡ body → body ≤ length s
         → Promised (frames.sized c (length t) (length l) (length p) (length sent) (length (part s head body))) c t l p (rules.frame (e .now) (part s head body) (part s body (e .next))) d t′ l′ p′
         → sent′ ≡ sentAfter (d .answer .sent) sent → Applies c t l p sent s e d t′ l′ p′ sent′ bytes′
     frame-applies head body q a b k h =
         let n : length (part s head body) ≡ 12 = length-take-le (body - head) (drop head s) (rw length-drop (omega arith)) ∙ omega arith in
-        made-as (rules.frame (e .now) (part s head body) (part s body (e .next))) _ _ (ap (callOf s (e .now) (e .next)) q) (λ v. refl) (λ v w. frame-right v w _ n) (frame-silent (absOf c t l p) (e .now) _ _) (λ f. h) k
+        made-as (kinds.Frame head body) _ _ q refl (λ v. refl) (λ v w. frame-right v w _ n) (frame-silent (absOf c t l p) (e .now) _ _) (λ f. h) k
 
     pub write-applies : (slot start : ℕ) → e .kind ≡ kinds.Write slot start
         → Promised (sentSized c (length t) (length sent)) c t l p (rules.write (e .now) (slotOf slot) (part s start (e .next))) d t′ l′ p′
         → sent′ ≡ sentAfter (d .answer .sent) sent → Applies c t l p sent s e d t′ l′ p′ sent′ bytes′
     unfolding step
     write-applies slot start q k h =
-        made-as (rules.write (e .now) slot (part s start (e .next))) _ _ (ap (callOf s (e .now) (e .next)) q)
+        made-as (kinds.Write slot start) _ _ q refl
         (λ v. slots-same v (e .now) slot (λ i. writeRules (absOf c t l p) i (entry (absOf c t l p .slots) i) (part s start (e .next))))
         sent-right (write-silent (absOf c t l p) (e .now) slot _) (λ f. h) k
 
@@ -128,7 +132,7 @@ module _ (c : Connection) (t l p sent : List ℕ) where
         → sent′ ≡ sentAfter (d .answer .sent) sent → Applies c t l p sent s e d t′ l′ p′ sent′ bytes′
     unfolding step
     close-applies slot q k h =
-        made-as (rules.close (e .now) slot) _ _ (ap (callOf s (e .now) (e .next)) q)
+        made-as (kinds.Close slot) _ _ q refl
         (λ v. slots-same v (e .now) slot (λ i. closeRules (absOf c t l p) i (entry (absOf c t l p .slots) i)))
         sent-right (close-silent (absOf c t l p) (e .now) slot) (λ f. h) k
 
@@ -137,7 +141,7 @@ module _ (c : Connection) (t l p sent : List ℕ) where
         → sent′ ≡ sentAfter (d .answer .sent) sent → Applies c t l p sent s e d t′ l′ p′ sent′ bytes′
     unfolding step
     drop-applies slot q k h =
-        made-as (rules.drop (e .now) slot) _ _ (ap (callOf s (e .now) (e .next)) q)
+        made-as (kinds.Drop slot) _ _ q refl
         (λ v. slots-same v (e .now) slot (λ i. dropRules (absOf c t l p) i (entry (absOf c t l p .slots) i)))
         drop-right (drop-silent (absOf c t l p) (e .now) slot) (λ f. h) k
 
@@ -146,14 +150,14 @@ module _ (c : Connection) (t l p sent : List ℕ) where
         → Promised (fits (c .memory .slots) (c .memory .pool) (length t) (length l) (length p)) c t l p (rules.open-stream (e .now)) d t′ l′ p′ → Applies c t l p sent s e d t′ l′ p′ sent bytes′
     open-applies q k =
         let x = rules.open-stream (e .now) in
-        made-as s e d t′ l′ p′ sent bytes′ x x _ (ap (callOf s (e .now) (e .next)) q) (λ v. refl) (λ v w. sized-fits (c .memory) t l p (v .memory .sized))
+        made-as s e d t′ l′ p′ sent bytes′ kinds.Open x _ q refl (λ v. refl) (λ v w. sized-fits (c .memory) t l p (v .memory .sized))
         (open-silent (absOf c t l p) (e .now)) (headless x d t′ l′ p′ sent bytes′ (open-headless (absOf c t l p) (e .now))) k
 
     pub gone-applies : e .kind ≡ kinds.Gone
         → Promised (tableFits (c .memory .slots) (length t)) c t l p (rules.gone (e .now)) d t′ l′ p′ → Applies c t l p sent s e d t′ l′ p′ sent bytes′
     gone-applies q k =
         let x = rules.gone (e .now) in
-        made-as s e d t′ l′ p′ sent bytes′ x x _ (ap (callOf s (e .now) (e .next)) q) (λ v. refl) (λ v w. table-right v)
+        made-as s e d t′ l′ p′ sent bytes′ kinds.Gone x _ q refl (λ v. refl) (λ v w. table-right v)
         (gone-silent (absOf c t l p) (e .now)) (headless x d t′ l′ p′ sent bytes′ (gone-headless (absOf c t l p) (e .now))) k
 
   module _ (s : List ℕ) (e : Event) (d : Done) (t′ l′ bytes out′ sent′ : List ℕ) where
@@ -176,13 +180,15 @@ module _ (c : Connection) (t l p sent : List ℕ) where
         let room : count ≤ length bytes = omega arith in
         let f = k .steps (all-right v w) v in
         let same = asked-same (e .now) slot count room v in
+        let counted = ap countOf (f .says .value) ∙ read-counts (absOf c t l p) (e .now) (slotOf slot) (length (take count bytes)) in
         rw q (record {
           follows = subst (λ (r : Result). Follows c t l p r d t′ l′ p) same f;
           header = o .header;
           bytes =
-              ap (λ (n : ℕ). take n (out′ ++ drop count bytes)) (f .read)
+              ap (λ (n : ℕ). take n (out′ ++ drop count bytes)) counted
               ∙ front _ (take count bytes) (drop count bytes) (o .bytes (all-right v w) v)
               ∙ ap (λ (r : Result). r .outcome .bytes) same;
+          all = counted ∙ ap (λ (r : Result). length (r .outcome .bytes)) same;
         })
 
 -- in a valid state all that is lent has its size

@@ -17,14 +17,16 @@ use Rattle.connection.specs.Abstract.{absOf, Valid}
 use Rattle.connection.specs.Promises.{Says, sentAfter}
 use Rattle.connection.specs.declared.Connection.{Connection}
 use Rattle.connection.specs.declared.Done.{Done}
+use Rattle.handlers.specs.declared.Answer.{Answer}
 use Rattle.trace_events.specs.Format.{eventAt}
 use Rattle.trace_events.specs.Calls.{call, callOn, callAt, longest, Spans, Lies}
 use Rattle.trace_events.specs.declared.Event.{Event}
+use Rattle.trace_events.specs.declared.Kind.{Kind}
 use Rattle.trace_events.specs.declared.Parsed.the-variants as parsed
 use Rattle.trace_events.proofs.Inside.{event-in}
 use Rattle.trace_lines.specs.Writing.{Stores, longestLine}
 use Rattle.trace.specs.Runs.{Room, only, headerBytes, eventLine, stopped, wrote, runs}
-use Rattle.trace.specs.Applies.{Applies}
+use Rattle.trace.specs.Applies.{bytesRead, Applies}
 use Rattle.trace.specs.Turns.{headerSize, shownLine, Goes}
 use Rattle.trace.specs.declared.Stop.{Stop}
 use Rattle.trace.specs.declared.Stop.the-variants as stop
@@ -76,20 +78,20 @@ bytes-shown n bytes given e l =
     let m : min n (length bytes) ≡ n = sym (length-take n bytes) ∙ ap length e ∙ sym l in
     rw m e
 
-line-shown : (number : ℕ) (d : Done) (sent′ bytes′ : List ℕ) (o : Outcome) → Says (d .answer) o → take (headerSize (d .answer .sent)) sent′ ≡ headerBytes (o .header)
-    → take (min (d .read) (length bytes′)) bytes′ ≡ o .bytes → shownLine number d sent′ bytes′ ≡ eventLine number o
+line-shown : (number : ℕ) (k : Kind) (a : Answer) (sent′ bytes′ : List ℕ) (o : Outcome) → Says a o → take (headerSize (a .sent)) sent′ ≡ headerBytes (o .header)
+    → take (min (bytesRead k (a .value)) (length bytes′)) bytes′ ≡ o .bytes → shownLine number k a sent′ bytes′ ≡ eventLine number o
 unfolding eventLine
-line-shown number d sent′ bytes′ o says h b = rw (h, b, says .reply, says .slot, says .value, says .wakes)
+line-shown number k a sent′ bytes′ o says h b = rw (h, b, says .reply, says .slot, says .value, says .wakes)
 
 module _ (c : Connection) (t l p sent s : List ℕ) (at number : ℕ) (o : List ℕ) (put : ℕ) (e : Event) (end : ℕ) (d : Done) (t′ l′ p′ sent′ bytes′ o′ : List ℕ)
     (h : eventAt s at ≡ parsed.Event e) (w : length sent ≡ 12) (room : longestLine ≤ length o - put)
-    (a : Applies c t l p sent s e d t′ l′ p′ sent′ bytes′) (written : Stores o put (shownLine number d sent′ bytes′) o′ end) (inside : end ≤ length o) where
-  shown : Valid c t l p → shownLine number d sent′ bytes′ ≡ eventLine number (step (absOf c t l p) (callOn s e) .outcome)
+    (a : Applies c t l p sent s e d t′ l′ p′ sent′ bytes′) (written : Stores o put (shownLine number (e .kind) (d .answer) sent′ bytes′) o′ end) (inside : end ≤ length o) where
+  shown : Valid c t l p → shownLine number (e .kind) (d .answer) sent′ bytes′ ≡ eventLine number (step (absOf c t l p) (callOn s e) .outcome)
   shown v =
       let x = a v w in
-      line-shown number d sent′ bytes′ _ (x .follows .says)
+      line-shown number (e .kind) (d .answer) sent′ bytes′ _ (x .follows .says)
       (header-shown (d .answer .sent) sent sent′ w (x .header) ∙ ap headerBytes (x .follows .says .sent))
-      (bytes-shown (d .read) bytes′ _ (x .bytes) (x .follows .read))
+      (bytes-shown (bytesRead (e .kind) (d .answer .value)) bytes′ _ (x .bytes) (x .all))
 
   pub goes : Goes c t l p s at number o put (d .connection) (e .next) end t′ l′ p′ o′
   goes = record {
@@ -98,12 +100,12 @@ module _ (c : Connection) (t l p sent s : List ℕ) (at number : ℕ) (o : List 
     written = omega (arith, written .next);
     room = inside;
     steps = λ v. record {
-      line = shownLine number d sent′ bytes′;
+      line = shownLine number (e .kind) (d .answer) sent′ bytes′;
       valid = a v w .follows .valid;
       goes = λ k n i.
-          went s at e h (length o - put) room (absOf c t l p) (absOf (d .connection) t′ l′ p′) k n (shownLine number d sent′ bytes′) (length o - end)
+          went s at e h (length o - put) room (absOf c t l p) (absOf (d .connection) t′ l′ p′) k n (shownLine number (e .kind) (d .answer) sent′ bytes′) (length o - end)
           (shown v ∙ ap (λ (m : ℕ). eventLine m (step (absOf c t l p) (callOn s e) .outcome)) (sym i))
-          (a v w .follows .after) (less-line (length o) put (length (shownLine number d sent′ bytes′)) end (written .next));
+          (a v w .follows .after) (less-line (length o) put (length (shownLine number (e .kind) (d .answer) sent′ bytes′)) end (written .next));
       ends = written .next;
       out = written .left;
     };

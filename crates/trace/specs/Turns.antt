@@ -11,10 +11,12 @@ use Rattle.stream.specs.declared.Sent.the-variants.{Frame, Nothing}
 use Rattle.rules.specs.State.{Conn}
 use Rattle.connection.specs.Abstract.{absOf, Valid}
 use Rattle.connection.specs.declared.Connection.{Connection}
-use Rattle.connection.specs.declared.Done.{Done}
+use Rattle.handlers.specs.declared.Answer.{Answer}
 use Rattle.trace_events.specs.Calls.{longest}
+use Rattle.trace_events.specs.declared.Kind.{Kind}
 use Rattle.trace_lines.specs.Line.{lineOf}
 use Rattle.trace_lines.specs.Writing.{longestLine}
+use Rattle.trace.specs.Applies.{bytesRead}
 use Rattle.trace.specs.Runs.{Traced, only, stopped, wrote, runs, resumed}
 use Rattle.trace.specs.declared.Stop.{Stop}
 use Rattle.trace.specs.declared.Stop.the-variants as stop
@@ -30,13 +32,13 @@ abbrev pub headerSize : Sent → ℕ
 headerSize (Frame h) = 12
 headerSize Nothing = 0
 
--- the line of an answer, its header and its bytes read off the lent output
-abbrev pub shownLine : ℕ → Done → List ℕ → List ℕ → List ℕ
-shownLine n d sent bytes =
+-- the line of an answer to an event of this kind, its header and its bytes read off the lent output
+abbrev pub shownLine : ℕ → Kind → Answer → List ℕ → List ℕ → List ℕ
+shownLine n k a sent bytes =
     lineOf
-    (record { number = n; reply = d .answer .reply; slot = d .answer .slot; value = d .answer .value; wakes = d .answer .wakes })
-    (take (headerSize (d .answer .sent)) sent)
-    (take (min (d .read) (length bytes)) bytes)
+    (record { number = n; reply = a .reply; slot = a .slot; value = a .value; wakes = a .wakes })
+    (take (headerSize (a .sent)) sent)
+    (take (min (bytesRead k (a .value)) (length bytes)) bytes)
 
 -- what a run that stops so lacks, on every input of `size` bytes and in `room` bytes for lines: fewer bytes are left than the longest event
 -- takes, or less room than the longest line takes; of the other reasons nothing is said

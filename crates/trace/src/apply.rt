@@ -3,10 +3,11 @@ ghost use mathlib.Core.Path.{_≡_};
 ghost use Prim.Native.Nat.{_≤_};
 ghost use lib.ListN.{length};
 ghost use Rattle.trace_events.specs.Calls.{Lies};
-ghost use Rattle.trace.specs.Applies.{slotOf, Applies};
+ghost use Rattle.trace.specs.Applies.{slotOf, bytesRead, Applies};
 use connection::Connection;
 use connection::Done;
 use rules::Slot;
+use rules::Value;
 use trace_events::Event;
 use trace_events::Kind;
 
@@ -20,6 +21,22 @@ fn slot_of(n: u64) -> Slot
         return Slot(4294967295);
     }
     Slot(n as u32)
+}
+
+// How many bytes read the line of an event of this kind shows.
+pub(crate) fn bytes_read(kind: Kind, value: Value) -> u32
+    ensures { λ r. ⌜ r ≡ bytesRead kind value ⌝ }
+{
+    match kind {
+        Kind::Read { slot: _, count: _ } => value.count(),
+        Kind::Tick => 0,
+        Kind::Frame { head: _, body: _ } => 0,
+        Kind::Open => 0,
+        Kind::Write { slot: _, start: _ } => 0,
+        Kind::Close { slot: _ } => 0,
+        Kind::Drop { slot: _ } => 0,
+        Kind::Gone => 0,
+    }
 }
 
 // Makes the call that an event stands for.

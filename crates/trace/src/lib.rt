@@ -14,9 +14,10 @@ ghost use Rattle.trace_lines.specs.Writing.{Stores, longestLine};
 ghost use Rattle.trace.specs.Applies.{sized};
 ghost use Rattle.trace.specs.Turns.{headerSize, shownLine, Turns, stoppedAt, Runs, Untouched};
 use connection::Connection;
-use connection::Done;
 use frame::header::HEADER_SIZE;
+use handlers::Answer;
 use stream::Sent;
+use trace_events::Kind;
 use trace_events::Parsed;
 use trace_lines::LONGEST_LINE;
 use trace_lines::Put;
@@ -85,19 +86,27 @@ fn least(n: u32, size: usize) -> usize
     if wide < size { wide } else { size }
 }
 
-// Writes the line of an event where there is room for the longest one, and returns the place after it.
-fn show(done: Done, sent: &[u8], bytes: &[u8], number: u64, out: &mut [u8], put: usize) -> usize
+// Writes the line of an event of this kind where there is room for the longest one, and returns the place after it.
+fn show(
+    kind: Kind,
+    answer: Answer,
+    sent: &[u8],
+    bytes: &[u8],
+    number: u64,
+    out: &mut [u8],
+    put: usize,
+) -> usize
     requires { ⌜ (length (now sent) ≡ 12) × (length (now bytes) ≡ 16384) × (put + longestLine ≤ length (now out)) ⌝ }
-    ensures { λ r. ⌜ Stores (now (out .entry)) put (shownLine number done (now (sent .entry)) (now (bytes .entry))) (now (out .exit)) r ⌝ }
+    ensures { λ r. ⌜ Stores (now (out .entry)) put (shownLine number kind answer (now (sent .entry)) (now (bytes .entry))) (now (out .exit)) r ⌝ }
     ensures { λ r. ⌜ r ≤ length (now (out .entry)) ⌝ }
 {
-    let answer = done.answer;
     let given = answer.sent;
     let header = header_size(given);
-    let read = least(done.read, bytes.len());
+    let value = answer.value;
+    let count = apply::bytes_read(kind, value);
+    let read = least(count, bytes.len());
     let reply = answer.reply;
     let slot = answer.slot;
-    let value = answer.value;
     let wakes = answer.wakes;
     let shown = Shown {
         number,
@@ -140,7 +149,9 @@ fn turn(
             let done = apply::apply(c, table, links, pool, sent, bytes, src, event);
             let at = event.next;
             let applied = place.applied + 1;
-            let put = show(done, &sent[..], &bytes[..], applied, out, place.put);
+            let answer = done.answer;
+            let kind = event.kind;
+            let put = show(kind, answer, &sent[..], &bytes[..], applied, out, place.put);
             let connection = done.connection;
             Turned::On(connection, Place { at, applied, put })
         }

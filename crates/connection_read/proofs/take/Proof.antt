@@ -6,6 +6,9 @@ use Rattle.connection_read.proofs.Draws.{take-reads}
 use Rattle.connection_read.proofs.take.Statement.{statement}
 use Rattle.connection_read.proofs.take.Tie as tie
 
+count-requires : tie.Need-count-requires
+count-requires c κs = search needs
+
 cast-n : tie.Need-cast-n
 cast-n c = search needs
 
@@ -14,8 +17,9 @@ slice-relend-prefix-drain c = search needs
 
 slice-aggregate-drain : tie.Need-slice-aggregate-drain
 slice-aggregate-drain c =
-    let s = c .before .before .before .before .before .before .before .before in
-    sym (length-take-le (s .args .step .count) (s .args .out .now) (s .pre))
+    let s = c .before .before .before .before .before .before .before .before .before in
+    let k = c .before .before .before .count in
+    sym (length-take-le (k .result) (s .args .out .now) (rw (k .ensures) (s .pre)))
 
 drain-requires : tie.Need-drain-requires
 drain-requires c κs = search needs
@@ -33,14 +37,17 @@ returns : tie.Need-returns
 returns c gives draws =
     let s = c .before .before .before .before .before .before .before .before .before .before .before .before .before .before .before .before .before .before in
     let a = s .args in
-    let d = c .before .before .before .before .before .before .before .before .before .drain in
-    take-reads (a .c) (a .table .now) (a .links .now) (a .pool .now) (a .slot .0) (a .step) (d .result) (d .last .1 .0) (d .last .1 .1 .0)
-    (a .row) gives draws (a .out .now) (s .pre) (d .last .1 .1 .1 .1 .1 .1 .1 .0) (d .kept .1 .1 .1 .1 .1 .1 .1 .0) (d .ensures)
+    let d = c .before .before .before .before .before .before .before .before .drain in
+    let e = c .before .before .before .before .before .before .before .before .before .before .before .before .count .ensures in
+    rw e
+    (take-reads (a .c) (a .table .now) (a .links .now) (a .pool .now) (a .slot .0) (a .step) (d .result) (d .last .1 .0) (d .last .1 .1 .0)
+    (a .row) gives draws (a .out .now) (s .pre) (d .last .1 .1 .1 .1 .1 .1 .1 .0) (rw e at (d .kept .1 .1 .1 .1 .1 .1 .1 .0)) (rw e at (d .ensures)))
 
 pub take-spec : {M : Type 1} → statement M
 take-spec =
     tie.close
     (tie.spec
+    count-requires
     cast-n
     slice-relend-prefix-drain
     slice-aggregate-drain

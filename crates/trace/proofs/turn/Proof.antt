@@ -40,9 +40,9 @@ add-applied c = omega (arith, c .before .before .before .before .before .before 
 
 show-requires : tie.Need-show-requires
 show-requires c κs =
-    let s = c .before .before .before .before .before .before .before .before .before .before .before .before .before .before .before .before .before .before .before .before .before .before .before .before .before .before .before .before .before .before .before .before .before in
-    let k = c .before .before .before .before .before .before .before .before .before .before .before .before .before .before .apply in
-    (k .kept .1 .1 .1 .1 .0 ∙ s .pre .0, k .kept .1 .1 .1 .1 .1 .0 ∙ s .pre .1, omega (arith, c .before .before .before .before .before .before .before .before .before .before .before .before .before .before .before .before .before .before .before .before .before .room-left .ensures, c .before .before .before .before .before .before .before .before .before .before .before .before .before .before .before .before .before .before .before .before .if1 .left))
+    let s = c .before .before .before .before .before .before .before .before .before .before .before .before .before .before .before .before .before .before .before .before .before .before .before .before .before .before .before .before .before .before .before .before .before .before in
+    let k = c .before .before .before .before .before .before .before .before .before .before .before .before .before .before .before .apply in
+    (k .kept .1 .1 .1 .1 .0 ∙ s .pre .0, k .kept .1 .1 .1 .1 .1 .0 ∙ s .pre .1, omega (arith, c .before .before .before .before .before .before .before .before .before .before .before .before .before .before .before .before .before .before .before .before .before .before .room-left .ensures, c .before .before .before .before .before .before .before .before .before .before .before .before .before .before .before .before .before .before .before .before .before .if1 .left))
 
 returns-2 : tie.Need-returns-2
 returns-2 c =
@@ -76,14 +76,14 @@ same-length-6 c = search needs
 
 returns-4 : tie.Need-returns-4
 returns-4 c =
-    let s = c .before .before .before .before .before .before .before .before .before .before .before .before .before .before .before .before .before .before .before .before .before .before .before .before .before .before .before .before .before .before .before .before .before .before .before .before .before in
+    let s = c .before .before .before .before .before .before .before .before .before .before .before .before .before .before .before .before .before .before .before .before .before .before .before .before .before .before .before .before .before .before .before .before .before .before .before .before .before .before in
     let a = s .args in
-    let k = c .before .before .before .before .before .before .before .before .before .before .before .before .before .before .before .before .before .before .apply in
+    let k = c .before .before .before .before .before .before .before .before .before .before .before .before .before .before .before .before .before .before .before .apply in
     let w = c .before .before .before .show in
-    let room = rw (c .before .before .before .before .before .before .before .before .before .before .before .before .before .before .before .before .before .before .before .before .before .before .before .before .before .room-left .ensures) at (c .before .before .before .before .before .before .before .before .before .before .before .before .before .before .before .before .before .before .before .before .before .before .before .before .if1 .left) in (
+    let room = rw (c .before .before .before .before .before .before .before .before .before .before .before .before .before .before .before .before .before .before .before .before .before .before .before .before .before .before .room-left .ensures) at (c .before .before .before .before .before .before .before .before .before .before .before .before .before .before .before .before .before .before .before .before .before .before .before .before .before .if1 .left) in (
       refl,
       goes (a .c) (a .table .now) (a .links .now) (a .pool .now) (a .sent .now) (a .src .now) (a .place .at) (a .place .applied + 1) (a .out .now) (a .place .put) _ _ (k .result) _ _ _ _ _ _
-          (sym (c .before .before .before .before .before .before .before .before .before .before .before .before .before .before .before .before .before .before .before .before .before .before .before .before .before .before .before .before .before .read-event .ensures) ∙ c .before .before .before .before .before .before .before .before .before .before .before .before .before .before .before .before .before .before .before .before .before .before .before .before .before .before .before .found .given .1) (s .pre .0) room (k .ensures) (w .ensures .0) (w .ensures .1),
+          (sym (c .before .before .before .before .before .before .before .before .before .before .before .before .before .before .before .before .before .before .before .before .before .before .before .before .before .before .before .before .before .before .read-event .ensures) ∙ c .before .before .before .before .before .before .before .before .before .before .before .before .before .before .before .before .before .before .before .before .before .before .before .before .before .before .before .before .found .given .1) (s .pre .0) room (k .ensures) (w .ensures .0) (w .ensures .1),
     )
 
 pub turn-spec : {M : Type 1} → statement M
