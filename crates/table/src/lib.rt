@@ -96,7 +96,8 @@ fn hint(table: &[u64], k: u32, id: StreamId) -> u32
     }
     let at = hint_place(k, id);
     if at < table.len() {
-        return (table[at] % 4294967296) as u32;
+        let cell = table[at];
+        return row::low(cell);
     }
     0
 }
