@@ -1,6 +1,7 @@
 -- Two outcomes of one call, and what is the same of them. 01: "Reply, frame, bytes read, wakes, table and pool follow from the input".
 -- The one exception is which blocks a queue has: the block numbers in rows, in links and in the free chain, and the pool's bytes that are not
--- unread. The table's hints and the cells of a free slot's row are beside it: no promise speaks of them, and no rule can see them.
+-- unread. The table's hints, the cells of a free slot's row and what a held slot's cells have beside its numbers are apart from it: no promise
+-- speaks of them, and no rule can see them.
 use mathlib.Core.Path.{_≡_}
 use mathlib.Core.Bool.{Bool, true, false}
 use mathlib.Core.List.{List}

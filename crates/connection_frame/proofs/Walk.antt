@@ -2,7 +2,7 @@
 use mathlib.Core.Path.{_≡_, refl}
 use mathlib.Core.Bool.{Bool, true, false, cond}
 use Prim.Native.Nat.{ℕ, _+_}
-use lib.Dec.{ltb, leb}
+use lib.Dec.{eqb, ltb, leb}
 use Rattle.frame.specs.Header.{contains, syn, fin, rst, initialWindow}
 use Rattle.frame.specs.declared.header.Header.{Header}
 use Rattle.flow_control.specs.Windows.{top}
@@ -81,7 +81,7 @@ module _ (Q : Action → Type 0) (l : Limits) (woke : Bool) (k : Known) (v : Whi
   knows known.Nowhere e = q .answers _ refl
   knows (known.At i s) e =
       receives h s (λ x. Q (take i s (l .room) woke (contains (h .flags) fin) n x)) (q .stores i s s true _ e refl refl)
-      (λ t w d. picks Q (ltb (l .room) n) _ _ (λ b. q .refuses _) (λ b. q .queues i s t _ _ e d b refl))
+      (λ t w d. picks Q (ltb (l .room) n) _ _ (λ b. q .refuses _) (λ b. picks Q (eqb n 0) _ _ (λ z. q .stores i s t _ _ e d refl) (λ z. q .queues i s t _ _ e d b refl)))
 
   pub walk : Q (streamAction l woke k v h now)
   unfolding streamAction

@@ -124,7 +124,7 @@ SendingIsALedger =
     (c : Conn) (b : ℕ → Account) → Books c b → (i : ℕ) → entry (c .slots) i .held ≡ true →
     initialWindow + b i .credited ≡ entry (c .slots) i .stream .flow .«send_window» + b i .sent
 
--- what the remote may still send on a stream, as it can tell from the wire
+-- what the remote may still send on a stream, by the frames that went out and those that were taken
 abbrev pub usable : Account → ℕ
 usable a = initialWindow + a .granted - a .accepted
 
@@ -145,7 +145,7 @@ over test f (e ∷ es) = cond (test e) (f 0) 0 + over test (λ i. f (suc i)) es
 abbrev pub heldWindows : List Entry → ℕ
 heldWindows es = over (λ e. e .held) (λ i. entry es i .stream .flow .«receive_window») es
 
--- what the remote may still send on all held streams, as it can tell from the wire
+-- what the remote may still send on all held streams, by the same frames
 abbrev pub heldUsable : (ℕ → Account) → List Entry → ℕ
 heldUsable b es = over (λ e. e .held) (λ i. usable (b i)) es
 

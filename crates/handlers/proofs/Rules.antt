@@ -3,7 +3,7 @@ use mathlib.Core.Path.{_≡_, refl, ap, sym, _∙_}
 use mathlib.Core.Bool.{Bool, true, false, cond, not}
 use mathlib.Core.List.{List, [], _∷_, append-nil}
 use Prim.Native.Nat.{ℕ, _+_, _<_}
-use lib.ListN.{length}
+use lib.ListN.{length, drop-of-length-le}
 use lib.Seq.{getD-set-same, set-set, set-getD}
 use lib.Dec.{eqb, ltb, leb}
 use native.Mathlib.Omega.{arith}
@@ -30,12 +30,15 @@ use Rattle.rules.specs.declared.Slot.{Slot}
 use Rattle.rules.specs.declared.Which.{Which}
 use Rattle.rules.proofs.Lists.{Says, first-says, sum-kept}
 use Rattle.handlers.specs.Actions as actions
-use Rattle.handlers.specs.Actions.{receive, violated, fullCode, newAction, made, first, onSyn, take, onKnown, streamAction, pongHeard, onPing}
-use Rattle.handlers.specs.Perform.{outcomeOf, perform, knownAt, limitsOf, wakesOpen, ofStream}
+use Rattle.handlers.specs.Actions.{receive, violated, fullCode, newAction, made, first, onSyn, kept, take, onKnown, streamAction, pongHeard, onPing}
+use borrow.Author.Tests.{eqb-true}
+use Rattle.handlers.specs.Perform.{outcomeOf, heard, changed, perform, knownAt, limitsOf, wakesOpen, ofStream}
 use Rattle.handlers.specs.declared.Known.{Known}
 use Rattle.handlers.specs.declared.Known.the-variants as known
 use Rattle.handlers.specs.declared.Limits.{Limits}
+use Rattle.handlers.specs.declared.Answer.{Answer}
 use Rattle.handlers.specs.declared.Action.{Action}
+use Rattle.handlers.specs.declared.Action.the-variants as action
 use Rattle.handlers.specs.declared.PingStep.{PingStep}
 use Rattle.handlers.proofs.Firsts.{over, opened}
 
@@ -80,6 +83,16 @@ module _ (c : Conn) (woke : Bool) (h : Header) (body : List ℕ) where
   violates (known.At i s) l = rw (l .1, l .2, append-nil)
   violates known.Nowhere l = refl
 
+  -- a body of no bytes is kept as one that is queued
+  keeps : (i : Slot) (t : Stream) (listed : Bool) (n : ℕ) (o : Answer) → length body ≡ n → (r : Result) → r ≡ does (action.Queue i t listed o) → r ≡ does (kept i t listed n o)
+  unfolding perform
+  keeps i t listed n o e r q = go (eqb n 0) refl
+    where
+      go : (b : Bool) → eqb n 0 ≡ b → r ≡ does (cond b (action.Store i t listed o) (action.Queue i t listed o))
+      go true z =
+          q ∙ ap (λ (x : List ℕ). gives (outcomeOf o) (withSlot (heard c o) (i .0) (changed (entry (c .slots) (i .0)) t listed x))) (drop-of-length-le body {i = 0} (omega (arith, e, eqb-true n 0 z)))
+      go false z = q
+
   module _ (i : Slot) (s : Stream) (lives : Lives c (i .0)) where
     same : entry (stepped c woke (known.At i s) .conn .slots) (i .0) ≡ withStream (entry (c .slots) (i .0)) s
     same = getD-set-same (c .slots) (i .0) (withStream (entry (c .slots) (i .0)) s) vacant (lives .0)
@@ -96,7 +109,7 @@ module _ (c : Conn) (woke : Bool) (h : Header) (body : List ℕ) where
     unfolding perform takeAt
     take-at n ProtocolError e = violates (known.At i s) lives
     take-at n (Taken t w) e =
-        rw (room-kept, e) (both does (ltb (room c) n) refl (rw (same, set-set, lives .1, lives .2)))
+        rw (room-kept, e) (both does (ltb (room c) n) refl (keeps i t _ n _ e _ (rw (same, set-set, lives .1, lives .2))))
 
   resets : (k : Known) → LivesAt c k → rules.onReset (stepped c woke k) (placeOf k) ≡ does (actions.onReset woke k)
   unfolding perform rules.onReset actions.onReset

@@ -1,7 +1,7 @@
 -- The frame rules as actions: what the rules of `rules/specs/Frames` do, said of one stream's value and of numbers.
 use mathlib.Core.Bool.{Bool, true, false, cond, not}
 use Prim.Native.Nat.{ℕ}
-use lib.Dec.{ltb, leb}
+use lib.Dec.{eqb, ltb, leb}
 use Rattle.frame.specs.Header.{contains, ack, syn, fin, rst, session, pingHeader, goAwayHeader, withAck, protocolError, internalError, initialWindow}
 use Rattle.frame.specs.declared.header.Header.{Header}
 use Rattle.frame.specs.declared.header.Tag.{Tag}
@@ -125,10 +125,14 @@ onSyn l woke k v h now = cond (isRemote (l .mode) (h .«stream_id»)) (unknownSy
 abbrev pub stays : Bool → Stream → Bool
 stays finished s = cond finished (not (isClosed (s .state))) true
 
+-- a body of no bytes touches no queue
+abbrev pub kept : Slot → Stream → Bool → ℕ → Answer → Action
+kept i t listed n o = cond (eqb n 0) (action.Store i t listed o) (action.Queue i t listed o)
+
 abbrev pub take : Slot → Stream → ℕ → Bool → Bool → ℕ → Received → Action
 take i s room woke finished n ProtocolError = violated woke (known.At i s)
 take i s room woke finished n (Taken t w) =
-    cond (ltb room n) (action.Refuse reply.NoRoom) (action.Queue i t (stays finished t) (told woke i w))
+    cond (ltb room n) (action.Refuse reply.NoRoom) (kept i t (stays finished t) n (told woke i w))
 
 unfoldable pub onKnown : ℕ → Bool → Known → Header → Action
 onKnown room woke known.Nowhere h = action.Answer (noAction woke)

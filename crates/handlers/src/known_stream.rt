@@ -42,5 +42,8 @@ pub fn on_known(room: u32, woke: bool, known: Known, header: Header) -> Action
     let flags = header.flags;
     let listed = stays(flags.contains(FIN), taken);
     let answer = answers::told(woke, slot, wakes);
+    if n == 0 {
+        return Action::Store(slot, taken, listed, answer);
+    }
     Action::Queue(slot, taken, listed, answer)
 }

@@ -9,7 +9,7 @@ use rules::Which;
 use stream::Stream;
 
 // The last id that is given.
-const LAST_ID: u32 = 4294967293;
+const LAST_ID: u32 = u32::MAX - 2;
 
 // Own-parity streams that may wait for their ACK.
 const MAX_ACK_BACKLOG: u32 = 256;

@@ -20,7 +20,7 @@ pub struct Memory {
 }
 
 // How many numbers have 32 bits.
-const RANGE: usize = 4294967296;
+const RANGE: usize = u32::MAX as usize + 1;
 
 // The sum's low 32 bits: all of it, in valid memory.
 fn more(n: u32, by: usize) -> u32

@@ -103,7 +103,7 @@ pub struct Woke {
 pub const LAST_TIME: u64 = 4611686018427387903;
 
 // The largest number of 32 bits.
-const TOP: u64 = 4294967295;
+const TOP: u64 = u32::MAX as u64;
 
 fn mode_of(n: u64) -> Mode
     ensures { λ r. ⌜ r ≡ modeOf n ⌝ }

@@ -2,7 +2,7 @@
 pub mod row;
 
 ghost use mathlib.Core.Path.{_≡_};
-ghost use Prim.Native.Nat.{_≤_, _<_, min};
+ghost use Prim.Native.Nat.{_≤_, _<_};
 ghost use lib.ListN.{length};
 ghost use Rattle.rules.specs.State.{one, isOwn};
 ghost use Rattle.table.specs.Rows.{blank, isUnacknowledged};
@@ -96,7 +96,8 @@ fn hint(table: &[u64], k: u32, id: StreamId) -> u32
     }
     let at = hint_place(k, id);
     if at < table.len() {
-        return (table[at] % 4294967296) as u32;
+        let cell = table[at];
+        return row::low(cell);
     }
     0
 }
@@ -116,17 +117,11 @@ pub fn insert(table: &mut [u64], k: u32, slot: Slot, row: Row)
     }
 }
 
-fn least(a: usize, b: usize) -> usize
-    ensures { λ r. ⌜ r ≡ min a b ⌝ }
-{
-    if a < b { a } else { b }
-}
-
 // The first slot with this key.
 fn scan(table: &[u64], k: u32, key: u64) -> Which
     ensures { λ r. ⌜ r ≡ scanned (now (table .entry)) k key ⌝ }
 {
-    let n = least(k as usize, table.len());
+    let n = chunks::least(k as usize, table.len());
     let mut i: usize = 0;
     while i < n {
         if table[i] == key {

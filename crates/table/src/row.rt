@@ -18,9 +18,10 @@ pub struct Row {
     pub queue: Queue,
 }
 
-const HALF: u64 = 4294967296;
+// How many numbers have 32 bits: half a cell.
+const HALF: u64 = u32::MAX as u64 + 1;
 
-fn low(cell: u64) -> u32
+pub(crate) fn low(cell: u64) -> u32
     ensures { λ r. ⌜ r ≡ low cell ⌝ }
 {
     (cell % HALF) as u32

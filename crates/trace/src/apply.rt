@@ -11,14 +11,12 @@ use rules::Value;
 use trace_events::Event;
 use trace_events::Kind;
 
-const TOP: u64 = 4294967295;
-
 // The slot of this number, or one that no connection has.
 fn slot_of(n: u64) -> Slot
     ensures { λ r. ⌜ r .0 ≡ slotOf n ⌝ }
 {
-    if TOP < n {
-        return Slot(4294967295);
+    if (u32::MAX as u64) < n {
+        return Slot(u32::MAX);
     }
     Slot(n as u32)
 }

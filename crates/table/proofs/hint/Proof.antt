@@ -16,17 +16,17 @@ returns c = rw (le-ltb 0 (c .before .before .args .k) (omega arith))
 hint-place-requires : tie.Need-hint-place-requires
 hint-place-requires c κs = search needs
 
-mul-result : tie.Need-mul-result
-mul-result c = search needs
+mul-cell : tie.Need-mul-cell
+mul-cell c = search needs
 
-shared-slice-read-result : tie.Need-shared-slice-read-result
-shared-slice-read-result c = search needs
+shared-slice-read-cell : tie.Need-shared-slice-read-cell
+shared-slice-read-cell c = search needs
 
-cast-result : tie.Need-cast-result
-cast-result c = search needs
+low-requires : tie.Need-low-requires
+low-requires c κs = search needs
 
 returns-2 : tie.Need-returns-2
-returns-2 c = rw (lt-ltb 0 (c .before .before .before .before .before .args .k) (omega arith), c .before .before .hint-place .ensures)
+returns-2 c = rw (lt-ltb 0 (c .before .before .before .before .before .before .args .k) (omega arith), c .low .ensures, c .before .before .before .hint-place .ensures)
 
 returns-3 : tie.Need-returns-3
 returns-3 c =
@@ -40,8 +40,8 @@ hint-spec =
     (tie.spec
     returns
     hint-place-requires
-    mul-result
-    shared-slice-read-result
-    cast-result
+    mul-cell
+    shared-slice-read-cell
+    low-requires
     returns-2
     returns-3)

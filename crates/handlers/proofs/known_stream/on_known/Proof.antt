@@ -1,6 +1,6 @@
 -- `handlers::known_stream::on_known` meets its contract. Assumes nothing.
 use borrow.Author.Needs.{needs}
-use borrow.Author.Tests.{lt-ltb, le-ltb}
+use borrow.Author.Tests.{lt-ltb, le-ltb, eq-eqb, ne-eqb}
 use Rattle.handlers.specs.Actions.{onKnown}
 use Rattle.handlers.proofs.known_stream.on_known.Statement.{statement}
 use Rattle.handlers.proofs.known_stream.on_known.Tie as tie
@@ -55,9 +55,20 @@ told-requires c κs = search needs
 returns-4 : tie.Need-returns-4
 unfolding onKnown
 returns-4 c =
-    let r = c .before .before .before .before .before in
-    let n = rw (r .body-length .ensures) at (c .before .before .before .before .if1 .left) in
-    rw (r .before .before .before .before .before .before .known .given .1, ← r .before .before .before .before .receive .ensures, r .before .before .received .given .1, le-ltb _ _ n, c .told .ensures, c .before .stays .ensures, c .before .before .contains .ensures)
+    let r = c .before .before .before .before .before .before in
+    let b = r .body-length .ensures in
+    let n = rw b at (c .before .before .before .before .before .if1 .left) in
+    let z = rw b at (c .if2 .taken) in
+    rw (r .before .before .before .before .before .before .known .given .1, ← r .before .before .before .before .receive .ensures, r .before .before .received .given .1, le-ltb _ _ n, eq-eqb _ _ z, c .before .told .ensures, c .before .before .stays .ensures, c .before .before .before .contains .ensures)
+
+returns-5 : tie.Need-returns-5
+unfolding onKnown
+returns-5 c =
+    let r = c .before .before .before .before .before .before in
+    let b = r .body-length .ensures in
+    let n = rw b at (c .before .before .before .before .before .if1 .left) in
+    let z = rw b at (c .if2 .left) in
+    rw (r .before .before .before .before .before .before .known .given .1, ← r .before .before .before .before .receive .ensures, r .before .before .received .given .1, le-ltb _ _ n, ne-eqb _ _ z, c .before .told .ensures, c .before .before .stays .ensures, c .before .before .before .contains .ensures)
 
 pub on-known-spec : {M : Type 1} → statement M
-on-known-spec = tie.close (tie.spec enum-known-known enum-told no-action-requires returns receive-requires enum-known-received enum-told-2 violated-requires returns-2 body-length-requires returns-3 contains-requires stays-requires told-requires returns-4)
+on-known-spec = tie.close (tie.spec enum-known-known enum-told no-action-requires returns receive-requires enum-known-received enum-told-2 violated-requires returns-2 body-length-requires returns-3 contains-requires stays-requires told-requires returns-4 returns-5)
