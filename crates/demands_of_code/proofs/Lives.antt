@@ -6,6 +6,8 @@ use Prim.Native.Nat.{ℕ, _-_}
 use native.Mathlib.Omega.{arith}
 use lib.ListN.{length, take, drop}
 use Rattle.rules.specs.Settings.{checked}
+use Rattle.connection.specs.declared.Done.{Done}
+use Rattle.rules.specs.Replies as replies
 use Rattle.rules.specs.Replies.{countOf}
 use Rattle.rules.specs.State.{Conn}
 use Rattle.rules.specs.Step.{Call, step, run, frame, read}
@@ -103,7 +105,10 @@ unread c t l p h a i held =
     (unread-is-the-rest (absOf c t l p) h (lives a .told) i, windows-are-within (absOf c t l p) (reached a) i held .0)
 
 pub given : Given
-given c t l p h a time i out sent d t′ l′ p′ out′ sent′ promised outputs =
+given c t l p h a false time i out sent d t′ l′ p′ out′ sent′ promised outputs =
+    let none : countOf (d .answer .value) ≡ 0 = ap (λ (x : Done). countOf (x .answer .value)) (promised .wrong refl) in
+    rw none (rw none at (outputs .past))
+given c t l p h a true time i out sent d t′ l′ p′ out′ sent′ promised outputs =
     let f : Follows c t l p (step (absOf c t l p) (read time i (length out))) d t′ l′ p′ = promised .steps refl (lives a .valid) in
     let bytes = step (absOf c t l p) (read time i (length out)) .outcome .bytes in
     outputs .bytes refl (lives a .valid)
@@ -111,7 +116,9 @@ given c t l p h a time i out sent d t′ l′ p′ out′ sent′ promised outpu
     ∙ ap (λ (n : ℕ). take n (drop (length (h i .given)) (h i .taken)) ++ drop n out) (sym (ap countOf (f .says .value) ∙ read-counts (absOf c t l p) time i (length out)))
 
 pub room : Room
-room c t l p h a large time head body few d t′ l′ p′ promised full =
+room c t l p h a large time head body few false d t′ l′ p′ promised full =
+    let z : _≡_ {A = ℕ} 14 8 = ap (λ (x : Done). replies.number (x .answer .reply)) (sym (promised .wrong refl)) ∙ ap replies.number full in omega arith
+room c t l p h a large time head body few true d t′ l′ p′ promised full =
     let f : Follows c t l p (step (absOf c t l p) (frame time head body)) d t′ l′ p′ = promised .steps refl (lives a .valid) in
     room-for-m (absOf c t l p) (reached a) time head body large few (sym (f .says .reply) ∙ full)
 

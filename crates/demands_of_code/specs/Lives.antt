@@ -1,7 +1,7 @@
 -- A connection and its lent memory after any calls and runs, and the third demand of them. Sentences are the demand's.
 use mathlib.Core.Path.{_≡_}
 use mathlib.Core.Logic.{_≢_}
-use mathlib.Core.Bool.{true, false}
+use mathlib.Core.Bool.{Bool, true, false}
 use mathlib.Core.List.{List, [], _∷_, _++_}
 use Prim.Native.Nat.{ℕ, _+_, _-_, _*_, _≤_}
 use lib.ListN.{length, take, drop}
@@ -72,8 +72,8 @@ Unread =
 abbrev pub Given : Type 0
 Given =
     (c : Connection) (t l p : List ℕ) (h : ℕ → Heard) → Lives c t l p h →
-    (time i : ℕ) (out sent : List ℕ) (d : Done) (t′ l′ p′ out′ sent′ : List ℕ) → Promised true c t l p (read time i (length out)) d t′ l′ p′ →
-    Outputs true c t l p time i out sent d out′ sent′ →
+    (sized : Bool) (time i : ℕ) (out sent : List ℕ) (d : Done) (t′ l′ p′ out′ sent′ : List ℕ) → Promised sized c t l p (read time i (length out)) d t′ l′ p′ →
+    Outputs sized c t l p time i out sent d out′ sent′ →
     out′ ≡ take (countOf (d .answer .value)) (drop (length (h i .given)) (h i .taken)) ++ drop (countOf (d .answer .value)) out
 
 -- "with a pool as large as the limit, and no more handles held (counting one that the frame would open) than M, no frame is
@@ -84,5 +84,5 @@ Room =
     c .config .limit ≤ c .memory .pool →
     (time : ℕ) (head body : List ℕ) →
     heldCount (slotsOf (c .memory) t l p) + one (wouldOpen (absOf c t l p) time head body) ≤ c .config .«max_num_streams» →
-    (d : Done) (t′ l′ p′ : List ℕ) → Promised true c t l p (frame time head body) d t′ l′ p′ →
+    (sized : Bool) (d : Done) (t′ l′ p′ : List ℕ) → Promised sized c t l p (frame time head body) d t′ l′ p′ →
     d .answer .reply ≢ reply.NoRoom

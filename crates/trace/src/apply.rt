@@ -11,11 +11,13 @@ use rules::Value;
 use trace_events::Event;
 use trace_events::Kind;
 
+const TOP: u64 = u32::MAX as u64;
+
 // The slot of this number, or one that no connection has.
 fn slot_of(n: u64) -> Slot
     ensures { λ r. ⌜ r .0 ≡ slotOf n ⌝ }
 {
-    if (u32::MAX as u64) < n {
+    if TOP < n {
         return Slot(u32::MAX);
     }
     Slot(n as u32)
