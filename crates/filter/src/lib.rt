@@ -6,14 +6,21 @@ ghost use lib.ListN.{length, take, drop};
 ghost use Rattle.filter.specs.Parts.{kept, Inside, first, afterRead, afterWrite, Flushes, Feeds, Fills};
 
 // Where a program stands: the input that was read and not yet taken lies from `at` to `have`, and what is not yet written lies below
-// `put`; whether the input has ended; whether all is done; and whether every read and write did its work.
+// `put`; whether the input has ended; whether all is done; and the work that reads and writes did.
 pub struct Standing {
     pub at: usize,
     pub have: usize,
     pub put: usize,
     pub ended: bool,
     pub done: bool,
-    pub whole: bool,
+    pub work: Work,
+}
+
+// Every read and write did its work, or one failed: a read, or a write. The program whose work it is says so by its own name.
+pub enum Work {
+    Whole,
+    Unread,
+    Unwritten,
 }
 
 // What a read brought: as many bytes are there now, or the input has ended, or it failed.
@@ -31,7 +38,6 @@ fn read_more(src: &mut [u8], have: usize) -> Got
 {
     let got = libc::read(0, &mut src[have..]);
     if got < 0 {
-        io::write_all(2, b"cannot read standard input\n");
         return Got::Failed;
     }
     let n = io::count(got, &src[have..]);
@@ -39,15 +45,6 @@ fn read_more(src: &mut [u8], have: usize) -> Got
         return Got::End;
     }
     Got::More(have + n)
-}
-
-// Writes to standard output, and says so where it cannot.
-pub fn write_out(out: &[u8]) -> bool {
-    let written = io::write_all(1, out);
-    if !written {
-        io::write_all(2, b"cannot write standard output\n");
-    }
-    written
 }
 
 // Moves the bytes between two places to the front, and returns how many they are: none where they are not all there.
@@ -81,7 +78,7 @@ pub fn first() -> Standing
         put: 0,
         ended: false,
         done: false,
-        whole: true,
+        work: Work::Whole,
     }
 }
 
@@ -102,7 +99,7 @@ pub fn after_read(s: Standing, front: usize, got: Got) -> Standing
             have: front,
             ended: true,
             done: true,
-            whole: false,
+            work: Work::Unread,
             ..s
         },
     }
@@ -112,14 +109,14 @@ pub fn after_read(s: Standing, front: usize, got: Got) -> Standing
 pub fn after_write(s: Standing, written: bool) -> Standing
     ensures { λ r. ⌜ r ≡ afterWrite s written ⌝ }
 {
+    let flushed = Standing { put: 0, ..s };
     if written {
-        return Standing { put: 0, ..s };
+        return flushed;
     }
     Standing {
-        put: 0,
         done: true,
-        whole: false,
-        ..s
+        work: Work::Unwritten,
+        ..flushed
     }
 }
 
@@ -139,7 +136,7 @@ pub fn flush(s: Standing, out: &[u8]) -> Standing
     ensures { λ r. ⌜ Flushes s (now (out .entry)) r ⌝ }
 {
     let put = s.put;
-    let written = write_out(&out[..put]);
+    let written = io::write_all(1, &out[..put]);
     after_write(s, written)
 }
 

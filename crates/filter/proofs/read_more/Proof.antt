@@ -17,17 +17,11 @@ part-read-end c = search needs
 read-requires : tie.Need-read-requires
 read-requires c κs = search needs
 
-slice-aggregate-write-all : tie.Need-slice-aggregate-write-all
-slice-aggregate-write-all c = search needs
-
-write-all-requires : tie.Need-write-all-requires
-write-all-requires c κs = search needs
-
 same-length : tie.Need-same-length
 same-length c = search needs
 
 returns : tie.Need-returns
-returns c = (tt, front-stays (c .before .before .before .before .before .before .before .before .args .have) (c .before .before .before .before .before .before .before .before .args .src .now) _ (omega (arith, c .before .before .before .before .before .before .before .before .pre)))
+returns c = (tt, front-stays (c .before .before .before .before .before .before .args .have) (c .before .before .before .before .before .before .args .src .now) _ (omega (arith, c .before .before .before .before .before .before .pre)))
 
 sub-count : tie.Need-sub-count
 sub-count c = search needs
@@ -47,8 +41,8 @@ same-length-2 c = search needs
 returns-2 : tie.Need-returns-2
 returns-2 c = (tt, front-stays (c .before .before .before .before .before .before .before .before .before .before .args .have) (c .before .before .before .before .before .before .before .before .before .before .args .src .now) _ (omega (arith, c .before .before .before .before .before .before .before .before .before .before .pre)))
 
-add-t7 : tie.Need-add-t7
-add-t7 c = search needs
+add-t6 : tie.Need-add-t6
+add-t6 c = search needs
 
 same-length-3 : tie.Need-same-length-3
 same-length-3 c = search needs
@@ -64,8 +58,6 @@ read-more-spec =
     part-read-start
     part-read-end
     read-requires
-    slice-aggregate-write-all
-    write-all-requires
     same-length
     returns
     sub-count
@@ -74,6 +66,6 @@ read-more-spec =
     count-requires
     same-length-2
     returns-2
-    add-t7
+    add-t6
     same-length-3
     returns-3)
