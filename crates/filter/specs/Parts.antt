@@ -3,7 +3,8 @@ use mathlib.Core.Path.{_≡_}
 use mathlib.Core.Bool.{Bool, true, false, cond}
 use mathlib.Core.List.{List, []}
 use Prim.Native.Nat.{ℕ, _-_, _≤_, _<_}
-use lib.Dec.{leb}
+use lib.Dec.{leb, eqb}
+use lib.IntN.{ℤ, pos, negsuc}
 use lib.ListN.{length, take, drop}
 use Rattle.filter.specs.Account.{Account, reads, writes}
 use Rattle.filter.specs.declared.Standing.{Standing}
@@ -39,6 +40,11 @@ Flushes s out s′ = (b : Account) × Flushed s out b s′
 -- the bytes between two places, which go before the next part; none where they are not all there
 abbrev pub kept : List ℕ → ℕ → ℕ → List ℕ
 kept s from to = cond (leb to (length s)) (take (to - from) (drop from s)) []
+
+-- What a read's answer means: below 0 it failed; where no byte is there that was not before, the input has ended; else there is more.
+abbrev pub answered : ℤ → ℕ → ℕ → Got
+answered (negsuc k) have end = Failed
+answered (pos k) have end = cond (eqb end have) End (More end)
 
 -- bytes read, one or more, come after those that are there, inside the buffer
 abbrev pub Inside : ℕ → ℕ → Got → Type 0

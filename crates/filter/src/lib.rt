@@ -3,7 +3,7 @@ ghost use mathlib.Core.Path.{_≡_};
 ghost use mathlib.Core.List.{_++_};
 ghost use Prim.Native.Nat.{_≤_, _<_};
 ghost use lib.ListN.{length, take, drop};
-ghost use Rattle.filter.specs.Parts.{kept, Inside, first, afterRead, afterWrite, Flushes, Feeds, Fills};
+ghost use Rattle.filter.specs.Parts.{kept, Inside, answered, first, afterRead, afterWrite, Flushes, Feeds, Fills};
 
 // Where a program stands: the input that was read and not yet taken lies from `at` to `have`, and what is not yet written lies below
 // `put`; whether the input has ended; whether all is done; and the work that reads and writes did.
@@ -30,6 +30,19 @@ pub enum Got {
     Failed,
 }
 
+// What a read's answer means, where bytes are there up to `have` before it and up to `end` after it.
+fn answered(got: isize, have: usize, end: usize) -> Got
+    ensures { λ r. ⌜ r ≡ answered got have end ⌝ }
+{
+    if got < 0 {
+        return Got::Failed;
+    }
+    if end == have {
+        return Got::End;
+    }
+    Got::More(end)
+}
+
 // Reads once, after the first bytes of the buffer.
 fn read_more(src: &mut [u8], have: usize) -> Got
     requires { ⌜ have < length (now src) ⌝ }
@@ -37,14 +50,8 @@ fn read_more(src: &mut [u8], have: usize) -> Got
     ensures { λ _. ⌜ take have (now (src .exit)) ≡ take have (now (src .entry)) ⌝ }
 {
     let got = libc::read(0, &mut src[have..]);
-    if got < 0 {
-        return Got::Failed;
-    }
     let n = io::count(got, &src[have..]);
-    if n == 0 {
-        return Got::End;
-    }
-    Got::More(have + n)
+    answered(got, have, have + n)
 }
 
 // Moves the bytes between two places to the front, and returns how many they are: none where they are not all there.

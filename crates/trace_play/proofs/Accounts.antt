@@ -259,11 +259,11 @@ plays-after a₀ s m z (more {a} {b} {s₁} {s₂} {m₁} {m₂} p q) =
 -- where every read and write did its work.
 pub performed : {b : Account} {r : Work} → Performed b r → Prefix (b .put) (output (b .brought)) × (r ≡ Whole → output (b .brought) ≡ b .put)
 performed (unread have input) = ((_, refl), λ e. never (sym (ap worked e)))
-performed (unreached {b} have ended input why r e o) =
+performed (unreached {b} have ended input why r n e o) =
     let p : b ≡ writes (lastLine why 0 0 0) = o .flushed .puts ∙ ap writes (o .text) in
     let w : output (take have input ++ []) ≡ lastLine why 0 0 0 = rw append-nil (none-reached (take have input) why e) in
     rw p (([], w ∙ sym (append-nil (lastLine why 0 0 0))), λ q. w)
-performed (played have ended input room t z next r h e q) = (last .start, λ w. last .all (q .ended .done) (sym (q .ended .work) ∙ w))
+performed (played have ended input room t z next r n h e q) = (last .start, λ w. last .all (q .ended .done) (sym (q .ended .work) ∙ w))
   where
     first : State
     first = record { connection = q .connection; applied = 0; standing = record { at = next; have = have; put = 0; ended = ended; done = false; work = Whole } }

@@ -134,13 +134,17 @@ pub record OnlyLine (why : Stop) (x : Standing) (b : Account) (r : Work) : Type 
 abbrev pub Lines : Stop → Standing → Work → Type 0
 Lines why x r = (b : Account) × OnlyLine why x b r
 
+-- the first hundred bytes, which decide the settings, are there, or the input has ended
+abbrev pub Enough : ℕ → Bool → Type 0
+Enough have ended = ended ≡ false → 100 ≤ have
+
 -- What the program does with a standard input, and the work that reads and writes did: the settings are not read, or no event is reached
 -- and the last line is put, or the events are played from the place after the settings on.
 pub data Performed : Account → Work → Type 0 where
   unread : (have : ℕ) (input : List ℕ) → Performed (reads (take have input)) Unread
-  unreached : {b : Account} (have : ℕ) (ended : Bool) (input : List ℕ) (why : Stop) (r : Work) → begunAs (settingsAt (take have input)) ≡ begun.Stop why → OnlyLine why (holding have ended) b r
+  unreached : {b : Account} (have : ℕ) (ended : Bool) (input : List ℕ) (why : Stop) (r : Work) → Enough have ended → begunAs (settingsAt (take have input)) ≡ begun.Stop why → OnlyLine why (holding have ended) b r
       → Performed (then (reads (take have input)) b) r
-  played : (have : ℕ) (ended : Bool) (input room : List ℕ) (t : Settings) (z : Sizes) (next : ℕ) (r : Work) → have ≤ length input → begunAs (settingsAt (take have input)) ≡ begun.Fine t z next
+  played : (have : ℕ) (ended : Bool) (input room : List ℕ) (t : Settings) (z : Sizes) (next : ℕ) (r : Work) → Enough have ended → have ≤ length input → begunAs (settingsAt (take have input)) ≡ begun.Fine t z next
       → (e : Started t (record { at = next; have = have; put = 0; ended = ended; done = false; work = Whole }) input room r)
       → Performed (then (reads (take have input)) (e .ended .account)) r
 
