@@ -1,6 +1,7 @@
 -- All that is printed for the bytes that reads brought is what was put to be written: of every turn, and of the whole. Assumes nothing.
 use mathlib.Core.Path.{_≡_, refl, sym, ap, subst, _∙_}
 use mathlib.Core.Bool.{Bool, true, false, cond}
+use mathlib.Core.Logic.{inl, inr}
 use mathlib.Core.List.{List, [], _++_, append-assoc, append-nil}
 use Prim.Native.Nat.{ℕ, _+_, _-_, _≤_}
 use native.Mathlib.Omega.{arith}
@@ -12,11 +13,17 @@ use Rattle.memory.proofs.Laws.{never}
 use Rattle.rules.specs.State.{Conn}
 use Rattle.connection.specs.Abstract.{absOf, Valid}
 use Rattle.trace.specs.Runs.{Traced, only, runs}
-use Rattle.trace.specs.Output.{lastLine, allowance, output, remaining, IsLast}
+use Rattle.trace.specs.Output.{begunAs, lastLine, allowance, output, remaining, IsLast}
 use Rattle.trace.specs.Turns.{Runs, RanAs, runsFrom}
 use Rattle.trace.specs.declared.Stop.{Stop}
 use Rattle.trace.specs.declared.Stop.the-variants as stop
 use Rattle.trace.specs.declared.Report.{Report}
+use Rattle.trace.specs.declared.ends.Begun.the-variants as begun
+use Rattle.trace_events.specs.Format.{settingsAt}
+use Rattle.trace_events.specs.declared.Preamble.the-variants as preamble
+use Rattle.trace_events.proofs.More.{Settles}
+use Rattle.trace_events.proofs.Settings.{settings-more}
+use Rattle.trace.proofs.Whole.{settings-there}
 use Rattle.trace.proofs.Remaining.{run-remains, last-remains, none-reached, events-reached}
 use Rattle.filter.specs.Parts.{kept, Inside, afterRead, afterWrite, Flushed, Fed}
 use Rattle.filter.specs.Account.{Account, nothing, reads, writes, then, Prefix}
@@ -26,7 +33,7 @@ use Rattle.filter.specs.declared.Work.the-variants.{Whole, Unread, Unwritten}
 use Rattle.filter.specs.declared.Got.{Got}
 use Rattle.filter.specs.declared.Got.the-variants.{More, End, Failed}
 use Rattle.trace_play.specs.Places.{nextTask, placeOf, afterRun, moved}
-use Rattle.trace_play.specs.Plays.{Wrote, Took, putting, over, Closed, broken, last, GoesOn, Lent, lent, Played, Plays, none, more, Performed, unread, unreached, played}
+use Rattle.trace_play.specs.Plays.{Wrote, Took, putting, over, Closed, broken, last, GoesOn, Lent, lent, Played, Plays, none, more, Performed, unread, unreached, played, isEnded}
 use Rattle.trace_play.specs.declared.State.{State}
 use Rattle.trace_play.proofs.Nearing.{kept-length}
 
@@ -54,10 +61,10 @@ pub record Stands (a : Account) (s : State) (m : Lent) : Type 0 where
   pub owes : (next : List ℕ) → output (a .brought ++ next) ≡ a .put ++ (take (s .standing .put) (m .room) ++ remaining (s .applied) (conn s m) (rest s m ++ next))
 
 -- What was put is the start of what is printed for all that was brought; and all of it where all is done and every read and write did its
--- work.
+-- work, whatever comes after where the input has not ended.
 pub record Told (a : Account) (s : State) : Type 0 where
   pub start : Prefix (a .put) (output (a .brought))
-  pub all : s .standing .done ≡ true → s .standing .work ≡ Whole → output (a .brought) ≡ a .put
+  pub all : s .standing .done ≡ true → s .standing .work ≡ Whole → (next : List ℕ) → (s .standing .ended ≡ true → next ≡ []) → output (a .brought ++ next) ≡ a .put
 
 pub record After (a : Account) (s : State) (m : Lent) : Type 0 where
   pub stands : s .standing .done ≡ false → Stands a s m
@@ -112,13 +119,12 @@ module _ (a : Account) (s : State) (m : Lent) (z : Stands a s m) (report : Repor
   }
 
   -- where this run is the last, the last line is printed
-  pub ran-ends : IsLast [] (report .stop)
-      → output (a .brought) ≡ a .put ++ (take (report .place .put) written ++ lastLine (report .stop) (s .standing .have - report .place .at) (report .place .applied) (report .connection .growth))
-  ran-ends l =
+  pub ran-ends : (next : List ℕ) → IsLast next (report .stop)
+      → output (a .brought ++ next) ≡ a .put ++ (take (report .place .put) written ++ lastLine (report .stop) (s .standing .have - report .place .at) (report .place .applied) (report .connection .growth))
+  ran-ends next l =
       let g : report .connection .growth ≡ ran .after .growth = ap (λ (c : Conn). c .growth) (ran-as .after) in
-      let w = last-remains (s .applied) (conn s m) read (s .standing .at) (only (length (m .room) - s .standing .put)) inside [] (subst (IsLast []) (ran-as .why) l) in
-      ap output (sym (append-nil (a .brought)))
-      ∙ ran-owes []
+      let w = last-remains (s .applied) (conn s m) read (s .standing .at) (only (length (m .room) - s .standing .put)) inside next (subst (IsLast next) (ran-as .why) l) in
+      ran-owes next
       ∙ ap (λ (x : List ℕ). a .put ++ ((take (s .standing .put) (m .room) ++ ran .lines) ++ x)) w
       ∙ rw (lines-put, ran-as .why, ran-as .at, ran-as .applied, g, size)
 
@@ -132,8 +138,8 @@ module _ (a : Account) (s : State) (m : Lent) (z : Stands a s m) (live : s .stan
     wrote-stands false = record { valid = z .valid; at = z .at; have = z .have; put = omega arith; owes = λ next. rw (append-nil, append-assoc) (z .owes next) }
 
     wrote-told : (written : Bool) → After (then a (writes (take (s .standing .put) (m .room)))) (moved s (afterWrite (s .standing) written)) m
-    wrote-told true = record { stands = λ d. wrote-stands true; told = record { start = starts _ _ _ (wrote-stands true); all = λ d w. never (sym d ∙ live) } }
-    wrote-told false = record { stands = λ d. wrote-stands false; told = record { start = starts _ _ _ (wrote-stands false); all = λ d w. never (sym (ap worked w)) } }
+    wrote-told true = record { stands = λ d. wrote-stands true; told = record { start = starts _ _ _ (wrote-stands true); all = λ d w next n. never (sym d ∙ live) } }
+    wrote-told false = record { stands = λ d. wrote-stands false; told = record { start = starts _ _ _ (wrote-stands false); all = λ d w next n. never (sym (ap worked w)) } }
 
     wrote-after : After (then a b) s′ m
     wrote-after =
@@ -183,7 +189,7 @@ module _ (a : Account) (s : State) (m : Lent) (z : Stands a s m) (live : s .stan
     took-after : After (then a b) s′ (lent (m .table) (m .links) (m .pool) input′ (m .room))
     took-after =
         subst (λ (y : State). After (then a b) y (lent (m .table) (m .links) (m .pool) input′ (m .room))) (sym (t .is))
-        (rw (t .fed .brings) (record { stands = λ d. took-stands; told = record { start = starts _ _ _ took-stands; all = λ d w. absurd (ended (t .fed .got) (t .fed .is) d w) } }))
+        (rw (t .fed .brings) (record { stands = λ d. took-stands; told = record { start = starts _ _ _ took-stands; all = λ d w next n. absurd (ended (t .fed .got) (t .fed .is) d w) } }))
 
 -- ---- a turn
 
@@ -203,44 +209,57 @@ module _ (a : Account) (s : State) (m : Lent) (z : Stands a s m) (b : Account) (
   abbrev line : List ℕ
   line = lastLine (k .report .stop) (s .standing .have - k .report .place .at) (k .report .place .applied) (k .report .connection .growth)
 
-  -- all is done where the last line did its work
-  whole-after : (c d : Account) (x y : Standing) → output (a .brought) ≡ a .put ++ (lines ++ line) → c ≡ writes lines → d ≡ writes line → After (then a (then c d)) (moved s₁ (over y)) m′
-  whole-after c d x y e p q =
-      let f : output (a .brought ++ []) ≡ a .put ++ (lines ++ line) = rw append-nil e in
-      rw (p, q) (record { stands = λ g. never g; told = record { start = ([], rw (append-nil (a .put ++ (lines ++ line))) f); all = λ g w. f } })
+  -- whatever may still come, the last line is printed
+  abbrev Ends : Type 0
+  Ends = (next : List ℕ) → (s .standing .ended ≡ true → next ≡ []) → output (a .brought ++ next) ≡ a .put ++ (lines ++ line)
 
-  broken-after : (c : Account) (x : Standing) → output (a .brought) ≡ a .put ++ (lines ++ line) → c ≡ writes lines → Flushed (s₁ .standing) (k .written) c x → x .done ≡ true → After (then a c) (moved s₁ x) m′
+  -- all is done where the last line did its work
+  whole-after : (c d : Account) (y : Standing) → Ends → y .ended ≡ s .standing .ended → c ≡ writes lines → d ≡ writes line → After (then a (then c d)) (moved s₁ (over y)) m′
+  whole-after c d y e same p q =
+      rw (p, q, append-nil (a .brought)) (record {
+        stands = λ g. never g;
+        told = record {
+          start = ([], ap output (sym (append-nil (a .brought))) ∙ e [] (λ g. refl) ∙ sym (append-nil (a .put ++ (lines ++ line))));
+          all = λ g w next n. e next (λ h. n (same ∙ h));
+        };
+      })
+
+  broken-after : (c : Account) (x : Standing) → Ends → c ≡ writes lines → Flushed (s₁ .standing) (k .written) c x → x .done ≡ true → After (then a c) (moved s₁ x) m′
   broken-after c x e p f d =
       rw p (record {
         stands = λ g. never (sym d ∙ g);
-        told = record { start = (line, rw (append-nil, append-assoc) e); all = λ g w. never (sym (ap worked w) ∙ ap worked (unwritten (f .written) (f .is))) };
+        told = record { start = (line, rw (append-nil, append-assoc) (rw append-nil at (e [] (λ g. refl)))); all = λ g w next n. never (sym (ap worked w) ∙ ap worked (unwritten (f .written) (f .is))) };
       })
     where
       unwritten : (b : Bool) → x ≡ afterWrite (s₁ .standing) b → x .work ≡ Unwritten
       unwritten true q = never (sym d ∙ ap (λ (y : Standing). y .done) q ∙ k .live)
       unwritten false q = ap (λ (y : Standing). y .work) q
 
-  closed-after : (why : Stop) → k .report .stop ≡ why → IsLast [] why → {b : Account} {s′ : State} → Closed why s₁ (k .written) b s′ → After (then a b) s′ m′
+  closed-after : (why : Stop) → k .report .stop ≡ why → ((next : List ℕ) → (s .standing .ended ≡ true → next ≡ []) → IsLast next why) → {b : Account} {s′ : State} → Closed why s₁ (k .written) b s′ → After (then a b) s′ m′
   closed-after why e l c = go c
     where
-      all : output (a .brought) ≡ a .put ++ (lines ++ line)
-      all = ran-ends a s m z (k .report) (m′ .table) (m′ .links) (m′ .pool) (k .written) (k .runs) (rw e l)
+      all : Ends
+      all next n = ran-ends a s m z (k .report) (m′ .table) (m′ .links) (m′ .pool) (k .written) (k .runs) next (rw e (l next n))
+
+      same : (x y : Standing) (w : Bool) → y ≡ afterWrite x w → y .ended ≡ x .ended
+      same x y true q = ap (λ (v : Standing). v .ended) q
+      same x y false q = ap (λ (v : Standing). v .ended) q
 
       go : {b : Account} {s′ : State} → Closed why s₁ (k .written) b s′ → After (then a b) s′ m′
       go (broken {a} {x} f d) = broken-after a x all (f .puts) f d
-      go (last {a} {b} {x} {y} end room f d t g) = whole-after a b x y all (f .puts) (g .puts ∙ ap writes (t ∙ rw e))
+      go (last {a} {b} {x} {y} end room f d t g) = whole-after a b y all (same (putting x end) y (g .written) (g .is) ∙ same (s₁ .standing) x (f .written) (f .is)) (f .puts) (g .puts ∙ ap writes (t ∙ rw e))
 
-  goes-after : (why : Stop) (ended : Bool) → k .report .stop ≡ why → GoesOn (nextTask why ended) why s₁ (m .input) (k .written) b s′ (m′ .input) (m′ .room) → After (then a b) s′ m′
-  goes-after stop.Full ended e g =
+  goes-after : (why : Stop) (ended : Bool) → s .standing .ended ≡ ended → k .report .stop ≡ why → GoesOn (nextTask why ended) why s₁ (m .input) (k .written) b s′ (m′ .input) (m′ .room) → After (then a b) s′ m′
+  goes-after stop.Full ended i e g =
       subst (After (then a b) s′) (λ i. record { table = m′ .table; links = m′ .links; pool = m′ .pool; input = sym (g .1) i; room = sym (g .2) i }) (wrote-after a s₁ m₁ here (k .live) b s′ (g .0))
-  goes-after stop.Short true e g = closed-after stop.Short e refl g
-  goes-after stop.Short false e g = subst (λ (o : List ℕ). After (then a b) s′ (lent (m′ .table) (m′ .links) (m′ .pool) (m′ .input) o)) (sym (g .1)) (took-after a s₁ m₁ here (k .live) b s′ (m′ .input) (g .0))
-  goes-after stop.Bad ended e g = closed-after stop.Bad e tt g
-  goes-after stop.Spent ended e g = closed-after stop.Spent e tt g
-  goes-after stop.Refused ended e g = closed-after stop.Refused e tt g
+  goes-after stop.Short true i e g = closed-after stop.Short e (λ next n. n i) g
+  goes-after stop.Short false i e g = subst (λ (o : List ℕ). After (then a b) s′ (lent (m′ .table) (m′ .links) (m′ .pool) (m′ .input) o)) (sym (g .1)) (took-after a s₁ m₁ here (k .live) b s′ (m′ .input) (g .0))
+  goes-after stop.Bad ended i e g = closed-after stop.Bad e (λ next n. tt) g
+  goes-after stop.Spent ended i e g = closed-after stop.Spent e (λ next n. tt) g
+  goes-after stop.Refused ended i e g = closed-after stop.Refused e (λ next n. tt) g
 
   turn-after : After (then a b) s′ m′
-  turn-after = goes-after (k .report .stop) (s .standing .ended) refl (k .goes)
+  turn-after = goes-after (k .report .stop) (s .standing .ended) refl refl (k .goes)
 
 -- ---- the whole
 
@@ -255,15 +274,28 @@ plays-after a₀ s m z none = rw (then-nothing a₀) z
 plays-after a₀ s m z (more {a} {b} {s₁} {s₂} {m₁} {m₂} p q) =
     rw (← then-then a₀ a b) (turn-after (then a₀ a) s₁ m₁ (plays-after a₀ s m z p .stands (q .live)) b s₂ m₂ q)
 
+-- no event is reached, whatever comes after where the input has not ended
+none-after : (s next : List ℕ) (ended : Bool) (why : Stop) → (ended ≡ false → 100 ≤ length s) → (ended ≡ true → next ≡ []) → begunAs (settingsAt s) ≡ begun.Stop why → output (s ++ next) ≡ lastLine why 0 0 0
+none-after s next true why h n e = rw (n refl, append-nil s) (none-reached s why e)
+none-after s next false why h n e = go (settings-more s next)
+  where
+    go : Settles preamble.Short (settingsAt s) (settingsAt (s ++ next)) → output (s ++ next) ≡ lastLine why 0 0 0
+    go (inl q) = absurd (settings-there s (h refl) q)
+    go (inr q) = none-reached (s ++ next) why (ap begunAs q ∙ e)
+
 -- Of the bytes that its reads brought, in order, what the program put to be written is the start of what is printed for them, and all of it
--- where every read and write did its work.
-pub performed : {b : Account} {r : Work} → Performed b r → Prefix (b .put) (output (b .brought)) × (r ≡ Whole → output (b .brought) ≡ b .put)
-performed (unread have input) = ((_, refl), λ e. never (sym (ap worked e)))
-performed (unreached {b} have ended input why r n e o) =
+-- where every read and write did its work: it ends where the input has ended, or where nothing that may come would be printed.
+pub performed : {b : Account} {r : Work} (p : Performed b r)
+    → Prefix (b .put) (output (b .brought)) × (r ≡ Whole → (next : List ℕ) → (isEnded p ≡ true → next ≡ []) → output (b .brought ++ next) ≡ b .put)
+performed (unread have input) = ((_, refl), λ e next n. never (sym (ap worked e)))
+performed (unreached {b} have ended input why r n h e o) =
     let p : b ≡ writes (lastLine why 0 0 0) = o .flushed .puts ∙ ap writes (o .text) in
-    let w : output (take have input ++ []) ≡ lastLine why 0 0 0 = rw append-nil (none-reached (take have input) why e) in
-    rw p (([], w ∙ sym (append-nil (lastLine why 0 0 0))), λ q. w)
-performed (played have ended input room t z next r n h e q) = (last .start, λ w. last .all (q .ended .done) (sym (q .ended .work) ∙ w))
+    let l : length (take have input) ≡ have = length-take-le have input h in
+    rw (p, append-nil (take have input)) (
+      ([], none-reached (take have input) why e ∙ sym (append-nil (lastLine why 0 0 0))),
+      λ q next f. none-after (take have input) next ended why (λ i. rw l (n i)) f e,
+    )
+performed (played have ended input room t z next r n h e q) = (last .start, λ w later f. last .all (q .ended .done) (sym (q .ended .work) ∙ w) later f)
   where
     first : State
     first = record { connection = q .connection; applied = 0; standing = record { at = next; have = have; put = 0; ended = ended; done = false; work = Whole } }
@@ -285,5 +317,5 @@ performed (played have ended input room t z next r n h e q) = (last .start, λ w
     last : Told (then (reads (take have input)) (q .ended .account)) (q .ended .state)
     last =
         plays-after (reads (take have input)) first m
-        (record { stands = λ d. here; told = record { start = starts (reads (take have input)) first m here; all = λ d w. never (sym d) } })
+        (record { stands = λ d. here; told = record { start = starts (reads (take have input)) first m here; all = λ d w later n. never (sym d) } })
         (q .ended .plays) .told

@@ -90,8 +90,8 @@ pub unread-performs : (have : ℕ) (input : List ℕ) (r : Work) → r ≡ Unrea
 unread-performs have input r e = (_, subst (Performed (reads (take have input))) (sym e) (unread have input))
 
 -- no event is reached
-pub line-performs : (x : Standing) (input : List ℕ) (why : Stop) (r : Work) → x ≡ holding (x .have) (x .ended) → Enough (x .have) (x .ended) → begunAs (settingsAt (take (x .have) input)) ≡ begun.Stop why → Lines why x r → Performs r
-line-performs x input why r e n g q = (_, unreached (x .have) (x .ended) input why r n g (subst (λ (y : Standing). OnlyLine why y (q .0) r) e (q .1)))
+pub line-performs : (x : Standing) (input : List ℕ) (why : Stop) (r : Work) → x ≡ holding (x .have) (x .ended) → Enough (x .have) (x .ended) → x .have ≤ length input → begunAs (settingsAt (take (x .have) input)) ≡ begun.Stop why → Lines why x r → Performs r
+line-performs x input why r e n h g q = (_, unreached (x .have) (x .ended) input why r n h g (subst (λ (y : Standing). OnlyLine why y (q .0) r) e (q .1)))
 
 -- the events are played from the place after the settings on
 pub plays : (x : Standing) (input room : List ℕ) (t : Settings) (z : Sizes) (next : ℕ) (r : Work) → x ≡ holding (x .have) (x .ended) → Enough (x .have) (x .ended) → x .have ≤ length input

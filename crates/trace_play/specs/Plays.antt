@@ -142,11 +142,17 @@ Enough have ended = ended ≡ false → 100 ≤ have
 -- and the last line is put, or the events are played from the place after the settings on.
 pub data Performed : Account → Work → Type 0 where
   unread : (have : ℕ) (input : List ℕ) → Performed (reads (take have input)) Unread
-  unreached : {b : Account} (have : ℕ) (ended : Bool) (input : List ℕ) (why : Stop) (r : Work) → Enough have ended → begunAs (settingsAt (take have input)) ≡ begun.Stop why → OnlyLine why (holding have ended) b r
+  unreached : {b : Account} (have : ℕ) (ended : Bool) (input : List ℕ) (why : Stop) (r : Work) → Enough have ended → have ≤ length input → begunAs (settingsAt (take have input)) ≡ begun.Stop why → OnlyLine why (holding have ended) b r
       → Performed (then (reads (take have input)) b) r
   played : (have : ℕ) (ended : Bool) (input room : List ℕ) (t : Settings) (z : Sizes) (next : ℕ) (r : Work) → Enough have ended → have ≤ length input → begunAs (settingsAt (take have input)) ≡ begun.Fine t z next
       → (e : Started t (record { at = next; have = have; put = 0; ended = ended; done = false; work = Whole }) input room r)
       → Performed (then (reads (take have input)) (e .ended .account)) r
+
+-- whether a read said that the input has ended
+abbrev pub isEnded : {b : Account} {r : Work} → Performed b r → Bool
+isEnded (unread have input) = false
+isEnded (unreached have ended input why r n h e o) = ended
+isEnded (played have ended input room t z next r n h e q) = q .ended .state .standing .ended
 
 abbrev pub Performs : Work → Type 0
 Performs r = (b : Account) × Performed b r
