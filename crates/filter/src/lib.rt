@@ -3,17 +3,24 @@ ghost use mathlib.Core.Path.{_≡_};
 ghost use mathlib.Core.List.{_++_};
 ghost use Prim.Native.Nat.{_≤_, _<_};
 ghost use lib.ListN.{length, take, drop};
-ghost use Rattle.filter.specs.Parts.{kept, Inside, first, afterRead, afterWrite, Flushes, Feeds, Fills};
+ghost use Rattle.filter.specs.Parts.{kept, Inside, answered, first, afterRead, afterWrite, Flushes, Feeds, Fills};
 
 // Where a program stands: the input that was read and not yet taken lies from `at` to `have`, and what is not yet written lies below
-// `put`; whether the input has ended; whether all is done; and whether every read and write did its work.
+// `put`; whether the input has ended; whether all is done; and the work that reads and writes did.
 pub struct Standing {
     pub at: usize,
     pub have: usize,
     pub put: usize,
     pub ended: bool,
     pub done: bool,
-    pub whole: bool,
+    pub work: Work,
+}
+
+// Every read and write did its work, or one failed: a read, or a write. The program whose work it is says so by its own name.
+pub enum Work {
+    Whole,
+    Unread,
+    Unwritten,
 }
 
 // What a read brought: as many bytes are there now, or the input has ended, or it failed.
@@ -23,6 +30,19 @@ pub enum Got {
     Failed,
 }
 
+// What a read's answer means, where bytes are there up to `have` before it and up to `end` after it.
+fn answered(got: isize, have: usize, end: usize) -> Got
+    ensures { λ r. ⌜ r ≡ answered got have end ⌝ }
+{
+    if got < 0 {
+        return Got::Failed;
+    }
+    if end == have {
+        return Got::End;
+    }
+    Got::More(end)
+}
+
 // Reads once, after the first bytes of the buffer.
 fn read_more(src: &mut [u8], have: usize) -> Got
     requires { ⌜ have < length (now src) ⌝ }
@@ -30,24 +50,8 @@ fn read_more(src: &mut [u8], have: usize) -> Got
     ensures { λ _. ⌜ take have (now (src .exit)) ≡ take have (now (src .entry)) ⌝ }
 {
     let got = libc::read(0, &mut src[have..]);
-    if got < 0 {
-        io::write_all(2, b"cannot read standard input\n");
-        return Got::Failed;
-    }
     let n = io::count(got, &src[have..]);
-    if n == 0 {
-        return Got::End;
-    }
-    Got::More(have + n)
-}
-
-// Writes to standard output, and says so where it cannot.
-pub fn write_out(out: &[u8]) -> bool {
-    let written = io::write_all(1, out);
-    if !written {
-        io::write_all(2, b"cannot write standard output\n");
-    }
-    written
+    answered(got, have, have + n)
 }
 
 // Moves the bytes between two places to the front, and returns how many they are: none where they are not all there.
@@ -81,7 +85,7 @@ pub fn first() -> Standing
         put: 0,
         ended: false,
         done: false,
-        whole: true,
+        work: Work::Whole,
     }
 }
 
@@ -102,7 +106,7 @@ pub fn after_read(s: Standing, front: usize, got: Got) -> Standing
             have: front,
             ended: true,
             done: true,
-            whole: false,
+            work: Work::Unread,
             ..s
         },
     }
@@ -112,14 +116,14 @@ pub fn after_read(s: Standing, front: usize, got: Got) -> Standing
 pub fn after_write(s: Standing, written: bool) -> Standing
     ensures { λ r. ⌜ r ≡ afterWrite s written ⌝ }
 {
+    let flushed = Standing { put: 0, ..s };
     if written {
-        return Standing { put: 0, ..s };
+        return flushed;
     }
     Standing {
-        put: 0,
         done: true,
-        whole: false,
-        ..s
+        work: Work::Unwritten,
+        ..flushed
     }
 }
 
@@ -139,7 +143,7 @@ pub fn flush(s: Standing, out: &[u8]) -> Standing
     ensures { λ r. ⌜ Flushes s (now (out .entry)) r ⌝ }
 {
     let put = s.put;
-    let written = write_out(&out[..put]);
+    let written = io::write_all(1, &out[..put]);
     after_write(s, written)
 }
 

@@ -1,7 +1,11 @@
 -- `filter::read_more` meets its contract: a read changes nothing before its place. Assumes nothing.
-use borrow.Author.Needs.{needs}
+use Prim.Native.Nat.{_+_}
 use native.Mathlib.Omega.{arith}
-use Rattle.filter.proofs.Feeding.{front-stays}
+use lib.ListN.{length}
+use mir.Syntax.{w64}
+use mir.Val.{toZ, ofZ}
+use Rattle.filter.proofs.Feeding.{front-stays, answer-inside}
+use borrow.Author.Needs.{needs}
 use Rattle.filter.proofs.read_more.Statement.{statement}
 use Rattle.filter.proofs.read_more.Tie as tie
 
@@ -17,18 +21,6 @@ part-read-end c = search needs
 read-requires : tie.Need-read-requires
 read-requires c κs = search needs
 
-slice-aggregate-write-all : tie.Need-slice-aggregate-write-all
-slice-aggregate-write-all c = search needs
-
-write-all-requires : tie.Need-write-all-requires
-write-all-requires c κs = search needs
-
-same-length : tie.Need-same-length
-same-length c = search needs
-
-returns : tie.Need-returns
-returns c = (tt, front-stays (c .before .before .before .before .before .before .before .before .args .have) (c .before .before .before .before .before .before .before .before .args .src .now) _ (omega (arith, c .before .before .before .before .before .before .before .before .pre)))
-
 sub-count : tie.Need-sub-count
 sub-count c = search needs
 
@@ -41,20 +33,22 @@ part-count-end c = search needs
 count-requires : tie.Need-count-requires
 count-requires c κs = search needs
 
-same-length-2 : tie.Need-same-length-2
-same-length-2 c = search needs
+add-answered : tie.Need-add-answered
+add-answered c = search needs
 
-returns-2 : tie.Need-returns-2
-returns-2 c = (tt, front-stays (c .before .before .before .before .before .before .before .before .before .before .args .have) (c .before .before .before .before .before .before .before .before .before .before .args .src .now) _ (omega (arith, c .before .before .before .before .before .before .before .before .before .before .pre)))
+answered-requires : tie.Need-answered-requires
+answered-requires c κs = search needs
 
-add-t7 : tie.Need-add-t7
-add-t7 c = search needs
+same-length : tie.Need-same-length
+same-length c = search needs
 
-same-length-3 : tie.Need-same-length-3
-same-length-3 c = search needs
-
-returns-3 : tie.Need-returns-3
-returns-3 c = ((omega arith, omega arith), front-stays (c .before .before .before .before .before .before .before .before .before .before .args .have) (c .before .before .before .before .before .before .before .before .before .before .args .src .now) _ (omega (arith, c .before .before .before .before .before .before .before .before .before .before .pre)))
+returns : tie.Need-returns
+returns c =
+    let a = c .before .before .before .before .before .before .before .before .before .args in
+    let p = c .before .before .before .before .before .before .before .before .before .pre in (
+      answer-inside (a .have) (a .have + c .before .count .result) (length (a .src .now)) (omega arith) (omega arith) (toZ w64 (ofZ w64 (c .before .before .before .before .before .before .read .result))) _ (c .answered .ensures),
+      front-stays (a .have) (a .src .now) _ (omega (arith, p)),
+    )
 
 pub read-more-spec : {M : Type 1} → statement M
 read-more-spec =
@@ -64,16 +58,11 @@ read-more-spec =
     part-read-start
     part-read-end
     read-requires
-    slice-aggregate-write-all
-    write-all-requires
-    same-length
-    returns
     sub-count
     part-count-start
     part-count-end
     count-requires
-    same-length-2
-    returns-2
-    add-t7
-    same-length-3
-    returns-3)
+    add-answered
+    answered-requires
+    same-length
+    returns)

@@ -1,3 +1,0 @@
--- What the contracts of `replay` cite.
-pub mod Places
-pub mod Plays

@@ -1,0 +1,104 @@
+-- Settings that a trace may have ask for no more than the program has, and make a connection. Assumes nothing.
+use mathlib.Core.Path.{_≡_, refl, sym, subst, _∙_}
+use mathlib.Core.Bool.{true}
+use mathlib.Core.List.{List}
+use Prim.Native.Nat.{ℕ, _*_, _≤_}
+use native.Mathlib.Omega.{arith}
+use lib.Dec.{leb}
+use lib.ListN.{length, take}
+use lib.Seq.{length-take-le}
+use borrow.Author.Tests.{leb-true, eq-eqb}
+use Rattle.rules.proofs.Lists.{both}
+use Rattle.rules.specs.Settings.{checked}
+use Rattle.rules.specs.State.{initial}
+use Rattle.rules.specs.declared.Settings.{Settings}
+use Rattle.rules.specs.declared.Setting.{Setting}
+use Rattle.rules.specs.declared.Config.{Config}
+use Rattle.rules.specs.declared.Checked.the-variants as settings
+use Rattle.connection.specs.Abstract.{absOf, Valid}
+use Rattle.connection.specs.declared.Connection.{Connection}
+use Rattle.chunks.specs.Blocks.{BLOCK, blocksFor}
+use Rattle.table.specs.Table.{size}
+use Rattle.connection_open.specs.Start.{sized, Begins, Creates}
+use Rattle.connection_open.specs.declared.Created.{Created}
+use Rattle.connection_open.specs.declared.Created.the-variants.{Made, Wrong, Size}
+use Rattle.trace_events.specs.Format.{settingsAt}
+use Rattle.trace.specs.Output.{isSmall, sizesOf, begunAs}
+use Rattle.trace.specs.declared.Stop.{Stop}
+use Rattle.trace.specs.declared.ends.Sizes.{Sizes}
+use Rattle.trace.specs.declared.ends.Begun.the-variants as begun
+use Rattle.trace.proofs.Remaining.{Prepared, events-reached}
+use Rattle.filter.specs.Account.{reads}
+use Rattle.filter.specs.Parts.{holding}
+use Rattle.filter.specs.declared.Standing.{Standing}
+use Rattle.filter.specs.declared.Work.{Work}
+use Rattle.filter.specs.declared.Work.the-variants.{Unread}
+use Rattle.trace_play.specs.Plays.{Fitting, Started, OnlyLine, Lines, Enough, Performed, Performs, unread, unreached, played}
+
+-- ---- the connection
+
+module _ (t : Settings) (table links pool : List ℕ) (f : Fitting t (length table) (length links) (length pool)) (r : Created) (t′ l′ p′ : List ℕ) (k : Creates t table links pool r t′ l′ p′) where
+  begins : (x : Created) → r ≡ x → Begins (f .config) x t′ l′ p′
+  begins x e = subst (λ (y : Created). Begins (f .config) y t′ l′ p′) e (k .made (f .config) (f .fine) (f .fits))
+
+  pub made-valid : (c : Connection) → r ≡ Made c → Valid c t′ l′ p′
+  made-valid c e = begins (Made c) e .0
+
+  pub made-new : (c : Connection) → r ≡ Made c → (j : Config) → checked t ≡ settings.Fine j → absOf c t′ l′ p′ ≡ initial j
+  made-new c e j g =
+      let h : settings.Fine (f .config) ≡ settings.Fine j = sym (f .fine) ∙ g in
+      let same : f .config ≡ j = cc in
+      rw (← same) (begins (Made c) e .1)
+
+  pub never-wrong : (w : Setting) → r ≡ Wrong w → ⊥
+  never-wrong w e = begins (Wrong w) e
+
+  pub never-size : r ≡ Size → ⊥
+  never-size e = begins Size e
+
+-- ---- the settings
+
+-- the program's table, links and pool
+pub record Lends (z : Sizes) : Type 0 where
+  pub table : z .table ≤ 2700
+  pub links : z .links ≤ 616
+  pub pool : z .pool ≤ 630784
+
+sizes-fit : (k : Config) → sized k (sizesOf k .table) (sizesOf k .links) (sizesOf k .pool) ≡ true
+sizes-fit k =
+    let n : ℕ = blocksFor (k .slots) (k .pool) in
+    rw (eq-eqb (size (k .slots)) (size (k .slots)) refl, eq-eqb n n refl) (eq-eqb (n * BLOCK) (n * BLOCK) refl)
+
+module _ {s : List ℕ} {t : Settings} {z : Sizes} {next : ℕ} (f : Prepared s t z next) where
+  pub asked : Lends z
+  asked =
+      let h = both (leb (f .config .slots) 300) (leb (f .config .pool) 16384) (f .small) in
+      let a : f .config .slots ≤ 300 = leb-true _ _ (h .0) in
+      let b : f .config .pool ≤ 16384 = leb-true _ _ (h .1) in
+      rw (f .sizes) (record { table = omega arith; links = omega arith; pool = omega arith })
+
+  pub fitting : (table links pool : List ℕ) → z .table ≤ length table → z .links ≤ length links → z .pool ≤ length pool
+      → Fitting t (length (take (z .table) table)) (length (take (z .links) links)) (length (take (z .pool) pool))
+  fitting table links pool a b c = record {
+    config = f .config;
+    fine = f .fine;
+    fits = rw (length-take-le (z .table) table a, length-take-le (z .links) links b, length-take-le (z .pool) pool c, f .sizes) (sizes-fit (f .config));
+  }
+
+-- the settings are not read
+pub unread-performs : (have : ℕ) (input : List ℕ) (r : Work) → r ≡ Unread → Performs r
+unread-performs have input r e = (_, subst (Performed (reads (take have input))) (sym e) (unread have input))
+
+-- no event is reached
+pub line-performs : (x : Standing) (input : List ℕ) (why : Stop) (r : Work) → x ≡ holding (x .have) (x .ended) → Enough (x .have) (x .ended) → x .have ≤ length input → begunAs (settingsAt (take (x .have) input)) ≡ begun.Stop why → Lines why x r → Performs r
+line-performs x input why r e n h g q = (_, unreached (x .have) (x .ended) input why r n h g (subst (λ (y : Standing). OnlyLine why y (q .0) r) e (q .1)))
+
+-- the events are played from the place after the settings on
+pub plays : (x : Standing) (input room : List ℕ) (t : Settings) (z : Sizes) (next : ℕ) (r : Work) → x ≡ holding (x .have) (x .ended) → Enough (x .have) (x .ended) → x .have ≤ length input
+    → begunAs (settingsAt (take (x .have) input)) ≡ begun.Fine t z next
+    → Started t (record { at = next; have = x .have; put = x .put; ended = x .ended; done = x .done; work = x .work }) input room r → Performs r
+plays x input room t z next r e n h g q = (
+  _,
+  played (x .have) (x .ended) input room t z next r n h g
+      (subst (λ (y : Standing). Started t (record { at = next; have = y .have; put = y .put; ended = y .ended; done = y .done; work = y .work }) input room r) e q),
+)

@@ -1,0 +1,3 @@
+-- What the contracts of `trace_play` cite.
+pub mod Places
+pub mod Plays

@@ -1,0 +1,158 @@
+-- What the program does, turn by turn, with the account of its reads and writes.
+use mathlib.Core.Path.{_≡_}
+use mathlib.Core.Bool.{Bool, true, false}
+use mathlib.Core.List.{List}
+use Prim.Native.Nat.{ℕ, _-_, _≤_}
+use lib.ListN.{length, take}
+use Rattle.rules.specs.Settings.{checked}
+use Rattle.rules.specs.State.{initial}
+use Rattle.rules.specs.declared.Settings.{Settings}
+use Rattle.rules.specs.declared.Config.{Config}
+use Rattle.rules.specs.declared.Checked.the-variants as settings
+use Rattle.connection.specs.Abstract.{absOf, Valid}
+use Rattle.connection.specs.declared.Connection.{Connection}
+use Rattle.connection_open.specs.Start.{sized}
+use Rattle.trace_events.specs.Format.{settingsAt}
+use Rattle.trace.specs.Output.{begunAs, lastLine, allowance}
+use Rattle.trace.specs.Turns.{Runs}
+use Rattle.trace.specs.declared.Stop.{Stop}
+use Rattle.trace.specs.declared.Report.{Report}
+use Rattle.trace.specs.declared.ends.Sizes.{Sizes}
+use Rattle.trace.specs.declared.ends.Begun.the-variants as begun
+use Rattle.filter.specs.Parts.{holding, Flushed, Fed}
+use Rattle.filter.specs.Account.{Account, nothing, reads, then}
+use Rattle.filter.specs.declared.Standing.{Standing}
+use Rattle.filter.specs.declared.Work.{Work}
+use Rattle.filter.specs.declared.Work.the-variants.{Whole, Unread}
+use Rattle.trace_play.specs.Places.{nextTask, placeOf, afterRun, moved}
+use Rattle.trace_play.specs.declared.State.{State}
+use Rattle.trace_play.specs.declared.Task.{Task}
+use Rattle.trace_play.specs.declared.Task.the-variants as task
+
+-- ---- a turn
+
+-- the lines that there were are written
+pub record Wrote (s : State) (room : List ℕ) (b : Account) (s′ : State) : Type 0 where
+  pub flushed : Flushed (s .standing) room b (s′ .standing)
+  pub is : s′ ≡ moved s (s′ .standing)
+
+-- more is read
+pub record Took (s : State) (input : List ℕ) (b : Account) (s′ : State) (input′ : List ℕ) : Type 0 where
+  pub fed : Fed (s .standing) input b (s′ .standing) input′
+  pub is : s′ ≡ moved s (s′ .standing)
+
+-- a text stands at the start of the room
+abbrev pub putting : Standing → ℕ → Standing
+putting x end = record { at = x .at; have = x .have; put = end; ended = x .ended; done = x .done; work = x .work }
+
+-- all is done
+abbrev pub over : Standing → Standing
+over x = record { at = x .at; have = x .have; put = x .put; ended = x .ended; done = true; work = x .work }
+
+-- the lines that there were are written, and where that did its work, the last line
+pub data Closed (why : Stop) (s : State) (room : List ℕ) : Account → State → Type 0 where
+  broken : {a : Account} {x : Standing} → Flushed (s .standing) room a x → x .done ≡ true → Closed why s room a (moved s x)
+  last : {a b : Account} {x y : Standing} (end : ℕ) (room′ : List ℕ) → Flushed (s .standing) room a x → x .done ≡ false
+      → take end room′ ≡ lastLine why (s .standing .have - s .standing .at) (s .applied) (s .connection .growth)
+      → Flushed (putting x end) room′ b y → Closed why s room (then a b) (moved s (over y))
+
+abbrev pub Closes : Stop → State → List ℕ → State → Type 0
+Closes why s room s′ = (b : Account) × Closed why s room b s′
+
+-- what follows a run that stopped so
+abbrev pub GoesOn : Task → Stop → State → List ℕ → List ℕ → Account → State → List ℕ → List ℕ → Type 0
+GoesOn task.Write why s input room b s′ input′ room′ = Wrote s room b s′ × (input′ ≡ input) × (room′ ≡ room)
+GoesOn task.Read why s input room b s′ input′ room′ = Took s input b s′ input′ × (room′ ≡ room)
+GoesOn task.End why s input room b s′ input′ room′ = Closed why s room b s′
+
+abbrev pub Goes : Stop → State → List ℕ → List ℕ → State → List ℕ → List ℕ → Type 0
+Goes why s input room s′ input′ room′ = (b : Account) × GoesOn (nextTask why (s .standing .ended)) why s input room b s′ input′ room′
+
+-- what is lent: table, links and pool, the input's buffer and the room for lines
+pub record Lent : Type 0 where
+  pub table : List ℕ
+  pub links : List ℕ
+  pub pool : List ℕ
+  pub input : List ℕ
+  pub room : List ℕ
+
+abbrev pub lent : List ℕ → List ℕ → List ℕ → List ℕ → List ℕ → Lent
+lent t l p input room = record { table = t; links = l; pool = p; input = input; room = room }
+
+-- A turn is a run over what was read and not yet taken, and what follows it.
+pub record Played (s : State) (m : Lent) (b : Account) (s′ : State) (m′ : Lent) : Type 0 where
+  pub live : s .standing .done ≡ false
+  pub report : Report
+  pub written : List ℕ
+  pub runs : Runs true (s .connection) (m .table) (m .links) (m .pool) (take (s .standing .have) (m .input)) (m .room) (placeOf s) allowance report (m′ .table) (m′ .links) (m′ .pool) written
+  pub goes : GoesOn (nextTask (report .stop) (s .standing .ended)) (report .stop) (afterRun s report) (m .input) written b s′ (m′ .input) (m′ .room)
+
+abbrev pub Turns : State → Lent → State → Lent → Type 0
+Turns s m s′ m′ = (b : Account) × Played s m b s′ m′
+
+-- ---- the whole
+
+-- turn by turn
+pub data Plays (s : State) (m : Lent) : Account → State → Lent → Type 0 where
+  none : Plays s m nothing s m
+  more : {a b : Account} {s₁ s₂ : State} {m₁ m₂ : Lent} → Plays s m a s₁ m₁ → Played s₁ m₁ b s₂ m₂ → Plays s m (then a b) s₂ m₂
+
+-- until all is done, with the work that reads and writes did
+pub record Ended (s : State) (m : Lent) (r : Work) : Type 0 where
+  pub account : Account
+  pub state : State
+  pub lent : Lent
+  pub plays : Plays s m account state lent
+  pub done : state .standing .done ≡ true
+  pub work : r ≡ state .standing .work
+
+-- settings that are accepted, and memory of the sizes that they ask for
+pub record Fitting (t : Settings) (table links pool : ℕ) : Type 0 where
+  pub config : Config
+  pub fine : checked t ≡ settings.Fine config
+  pub fits : sized config table links pool ≡ true
+
+-- a new connection, of which no event is applied
+pub record Started (t : Settings) (x : Standing) (input room : List ℕ) (r : Work) : Type 0 where
+  pub connection : Connection
+  pub table : List ℕ
+  pub links : List ℕ
+  pub pool : List ℕ
+  pub valid : Valid connection table links pool
+  pub new : (k : Config) → checked t ≡ settings.Fine k → absOf connection table links pool ≡ initial k
+  pub ended : Ended (record { connection = connection; applied = 0; standing = x }) (lent table links pool input room) r
+
+-- the one line of a trace without an event is written
+pub record OnlyLine (why : Stop) (x : Standing) (b : Account) (r : Work) : Type 0 where
+  pub to : Standing
+  pub end : ℕ
+  pub room : List ℕ
+  pub text : take end room ≡ lastLine why 0 0 0
+  pub flushed : Flushed (putting x end) room b to
+  pub work : r ≡ to .work
+
+abbrev pub Lines : Stop → Standing → Work → Type 0
+Lines why x r = (b : Account) × OnlyLine why x b r
+
+-- the first hundred bytes, which decide the settings, are there, or the input has ended
+abbrev pub Enough : ℕ → Bool → Type 0
+Enough have ended = ended ≡ false → 100 ≤ have
+
+-- What the program does with a standard input, and the work that reads and writes did: the settings are not read, or no event is reached
+-- and the last line is put, or the events are played from the place after the settings on.
+pub data Performed : Account → Work → Type 0 where
+  unread : (have : ℕ) (input : List ℕ) → Performed (reads (take have input)) Unread
+  unreached : {b : Account} (have : ℕ) (ended : Bool) (input : List ℕ) (why : Stop) (r : Work) → Enough have ended → have ≤ length input → begunAs (settingsAt (take have input)) ≡ begun.Stop why → OnlyLine why (holding have ended) b r
+      → Performed (then (reads (take have input)) b) r
+  played : (have : ℕ) (ended : Bool) (input room : List ℕ) (t : Settings) (z : Sizes) (next : ℕ) (r : Work) → Enough have ended → have ≤ length input → begunAs (settingsAt (take have input)) ≡ begun.Fine t z next
+      → (e : Started t (record { at = next; have = have; put = 0; ended = ended; done = false; work = Whole }) input room r)
+      → Performed (then (reads (take have input)) (e .ended .account)) r
+
+-- whether a read said that the input has ended
+abbrev pub isEnded : {b : Account} {r : Work} → Performed b r → Bool
+isEnded (unread have input) = false
+isEnded (unreached have ended input why r n h e o) = ended
+isEnded (played have ended input room t z next r n h e q) = q .ended .state .standing .ended
+
+abbrev pub Performs : Work → Type 0
+Performs r = (b : Account) × Performed b r
