@@ -8,7 +8,7 @@ pub use ends::begin;
 pub use ends::finish;
 ghost use mathlib.Core.Path.{_≡_};
 ghost use mathlib.Core.Bool.{true};
-ghost use Prim.Native.Nat.{_+_, _-_, _≤_, _<_, min};
+ghost use Prim.Native.Nat.{_+_, _-_, _≤_, _<_};
 ghost use lib.ListN.{length};
 ghost use Rattle.trace_lines.specs.Writing.{Stores, longestLine};
 ghost use Rattle.trace.specs.Applies.{sized};
@@ -78,14 +78,6 @@ fn header_size(sent: Sent) -> usize
     }
 }
 
-fn least(n: u32, size: usize) -> usize
-    ensures { λ r. ⌜ r ≡ min n size ⌝ }
-    ensures { λ r. ⌜ r ≤ size ⌝ }
-{
-    let wide = n as usize;
-    if wide < size { wide } else { size }
-}
-
 // Writes the line of an event of this kind where there is room for the longest one, and returns the place after it.
 fn show(
     kind: Kind,
@@ -104,7 +96,7 @@ fn show(
     let header = header_size(given);
     let value = answer.value;
     let count = apply::bytes_read(kind, value);
-    let read = least(count, bytes.len());
+    let read = chunks::least(count as usize, bytes.len());
     let reply = answer.reply;
     let slot = answer.slot;
     let wakes = answer.wakes;

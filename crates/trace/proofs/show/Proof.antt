@@ -13,6 +13,9 @@ header-size-requires c κs = search needs
 bytes-read-requires : tie.Need-bytes-read-requires
 bytes-read-requires c κs = search needs
 
+cast-least : tie.Need-cast-least
+cast-least c = search needs
+
 least-requires : tie.Need-least-requires
 least-requires c κs = search needs
 
@@ -20,7 +23,7 @@ slice-aggregate-line : tie.Need-slice-aggregate-line
 slice-aggregate-line c = sym (length-take-le _ _ (omega (arith, c .before .before .before .before .before .header-size .ensures .1, c .before .before .before .before .before .before .before .before .before .pre .0)))
 
 slice-aggregate-line-2 : tie.Need-slice-aggregate-line-2
-slice-aggregate-line-2 c = sym (length-take-le _ _ (c .before .before .before .before .least .ensures .1))
+slice-aggregate-line-2 c = sym (length-take-le _ _ (omega (arith, c .before .before .before .before .least .ensures)))
 
 line-requires : tie.Need-line-requires
 line-requires c κs = search needs
@@ -38,7 +41,7 @@ returns : tie.Need-returns
 returns c =
     let s = c .before .before .before .before .before .before .before .before .before .before .before .before .before .before .before .before in
     let k = c .before .before .before .before .before .line in
-    let e = rw (c .before .written .given .1, c .before .before .before .before .before .before .before .before .before .before .before .before .header-size .ensures .0, c .before .before .before .before .before .before .before .before .before .before .least .ensures .0, c .before .before .before .before .before .before .before .before .before .before .before .bytes-read .ensures) at (k .ensures) in
+    let e = rw (c .before .written .given .1, c .before .before .before .before .before .before .before .before .before .before .before .before .header-size .ensures .0, c .before .before .before .before .before .before .before .before .before .before .least .ensures, c .before .before .before .before .before .before .before .before .before .before .before .bytes-read .ensures) at (k .ensures) in
     shows (s .args .kind) (s .args .answer) (s .args .sent .now) (s .args .bytes .now) (s .args .number) (s .args .out .now) (s .args .put) _ (s .pre .0) (s .pre .1) (s .pre .2) _ e (k .kept .0)
 
 same-length-2 : tie.Need-same-length-2
@@ -48,7 +51,7 @@ returns-2 : tie.Need-returns-2
 returns-2 c =
     let s = c .before .before .before .before .before .before .before .before .before .before .before .before .before .before .before in
     let k = c .before .before .before .before .line in
-    let e = rw (c .enum-told .given .1, c .before .before .before .before .before .before .before .before .before .before .before .header-size .ensures .0, c .before .before .before .before .before .before .before .before .before .least .ensures .0, c .before .before .before .before .before .before .before .before .before .before .bytes-read .ensures) at (k .ensures) in
+    let e = rw (c .enum-told .given .1, c .before .before .before .before .before .before .before .before .before .before .before .header-size .ensures .0, c .before .before .before .before .before .before .before .before .before .least .ensures, c .before .before .before .before .before .before .before .before .before .before .bytes-read .ensures) at (k .ensures) in
     absurd (never-full (s .args .kind) (s .args .answer) (s .args .sent .now) (s .args .bytes .now) (s .args .number) (s .args .out .now) (s .args .put) _ (s .pre .0) (s .pre .1) (s .pre .2) e)
 
 pub show-spec : {M : Type 1} → statement M
@@ -57,6 +60,7 @@ show-spec =
     (tie.spec
     header-size-requires
     bytes-read-requires
+    cast-least
     least-requires
     slice-aggregate-line
     slice-aggregate-line-2
