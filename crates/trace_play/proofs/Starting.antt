@@ -33,7 +33,7 @@ use Rattle.filter.specs.Parts.{holding}
 use Rattle.filter.specs.declared.Standing.{Standing}
 use Rattle.filter.specs.declared.Work.{Work}
 use Rattle.filter.specs.declared.Work.the-variants.{Unread}
-use Rattle.trace_play.specs.Plays.{Fitting, Started, OnlyLine, Lines, Enough, Performed, Performs, unread, unreached, played}
+use Rattle.trace_play.specs.Plays.{Lent, Fitting, Started, OnlyLine, Lines, Enough, Performed, Performs, unread, unreached, played}
 
 -- ---- the connection
 
@@ -86,19 +86,19 @@ module _ {s : List ℕ} {t : Settings} {z : Sizes} {next : ℕ} (f : Prepared s 
   }
 
 -- the settings are not read
-pub unread-performs : (have : ℕ) (input : List ℕ) (r : Work) → r ≡ Unread → Performs r
-unread-performs have input r e = (_, subst (Performed (reads (take have input))) (sym e) (unread have input))
+pub unread-performs : (have : ℕ) (input room : List ℕ) (r : Work) → r ≡ Unread → Performs room r input room
+unread-performs have input room r e = (_, subst (λ (w : Work). Performed room (reads (take have input)) w input room) (sym e) (unread have input))
 
 -- no event is reached
-pub line-performs : (x : Standing) (input : List ℕ) (why : Stop) (r : Work) → x ≡ holding (x .have) (x .ended) → Enough (x .have) (x .ended) → x .have ≤ length input → begunAs (settingsAt (take (x .have) input)) ≡ begun.Stop why → Lines why x r → Performs r
-line-performs x input why r e n h g q = (_, unreached (x .have) (x .ended) input why r n h g (subst (λ (y : Standing). OnlyLine why y (q .0) r) e (q .1)))
+pub line-performs : (x : Standing) (input room : List ℕ) (why : Stop) (r : Work) {room′ : List ℕ} → x ≡ holding (x .have) (x .ended) → Enough (x .have) (x .ended) → x .have ≤ length input → begunAs (settingsAt (take (x .have) input)) ≡ begun.Stop why → Lines why x r room′ → Performs room r input room′
+line-performs x input room why r {room′} e n h g q = (_, unreached (x .have) (x .ended) input why r n h g (subst (λ (y : Standing). OnlyLine why y (q .0) r room′) e (q .1)))
 
 -- the events are played from the place after the settings on
-pub plays : (x : Standing) (input room : List ℕ) (t : Settings) (z : Sizes) (next : ℕ) (r : Work) → x ≡ holding (x .have) (x .ended) → Enough (x .have) (x .ended) → x .have ≤ length input
+pub plays : (x : Standing) (input room : List ℕ) (t : Settings) (z : Sizes) (next : ℕ) (r : Work) {m′ : Lent} → x ≡ holding (x .have) (x .ended) → Enough (x .have) (x .ended) → x .have ≤ length input
     → begunAs (settingsAt (take (x .have) input)) ≡ begun.Fine t z next
-    → Started t (record { at = next; have = x .have; put = x .put; ended = x .ended; done = x .done; work = x .work }) input room r → Performs r
-plays x input room t z next r e n h g q = (
+    → Started t (record { at = next; have = x .have; put = x .put; ended = x .ended; done = x .done; work = x .work }) input room r m′ → Performs room r (m′ .input) (m′ .room)
+plays x input room t z next r {m′} e n h g q = (
   _,
-  played (x .have) (x .ended) input room t z next r n h g
-      (subst (λ (y : Standing). Started t (record { at = next; have = y .have; put = y .put; ended = y .ended; done = y .done; work = y .work }) input room r) e q),
+  played (x .have) (x .ended) input t z next r n h g
+      (subst (λ (y : Standing). Started t (record { at = next; have = y .have; put = y .put; ended = y .ended; done = y .done; work = y .work }) input room r m′) e q),
 )

@@ -79,19 +79,19 @@ fn last_line(stop: Stop, left: usize, applied: u64, growth: u64, out: &mut [u8])
 // Writes the lines that there are, and the last line.
 fn finish(state: State, stop: Stop, out: &mut [u8]) -> State
     requires { ⌜ (state .standing .at ≤ state .standing .have) × (state .standing .put ≤ length (now out)) × (100 ≤ length (now out)) × (state .standing .done ≡ false) ⌝ }
-    ensures { λ r. ⌜ Closes stop state (now (out .entry)) r ⌝ }
+    ensures { λ r. ⌜ Closes stop state (now (out .entry)) r (now (out .exit)) ⌝ }
 {
     let standing = state.standing;
     let flushed = filter::flush(standing, &out[..]);
-    let connection = state.connection;
-    let left = standing.have - standing.at;
-    let put = last_line(stop, left, state.applied, connection.growth, out);
     if flushed.done {
         return State {
             standing: flushed,
             ..state
         };
     }
+    let connection = state.connection;
+    let left = standing.have - standing.at;
+    let put = last_line(stop, left, state.applied, connection.growth, out);
     let line = Standing { put, ..flushed };
     let last = filter::flush(line, &out[..]);
     let closed = Standing { done: true, ..last };
@@ -206,7 +206,7 @@ fn turn(
 
 // Turn by turn, until all is done, and returns the work that reads and writes did. Each turn but the last leaves less to do, so this ends
 // even where the input does not.
-pub fn play(
+fn play(
     start: State,
     table: &mut [u64],
     links: &mut [u32],
@@ -219,7 +219,7 @@ pub fn play(
     requires { ⌜ Sound (length (now src)) (length (now out)) (start .standing) ⌝ }
     requires { ⌜ Roomy (length (now src)) (length (now out)) ⌝ }
     requires { ⌜ Valid (start .connection) (now table) (now links) (now pool) × (length (now sent) ≡ 12) × (length (now bytes) ≡ 16384) ⌝ }
-    ensures { λ r. ⌜ Ended start (lent (now (table .entry)) (now (links .entry)) (now (pool .entry)) (now (src .entry)) (now (out .entry))) r ⌝ }
+    ensures { λ r. ⌜ Ended start (lent (now (table .entry)) (now (links .entry)) (now (pool .entry)) (now (src .entry)) (now (out .entry))) r (lent (now (table .exit)) (now (links .exit)) (now (pool .exit)) (now (src .exit)) (now (out .exit))) ⌝ }
 {
     let mut state = start;
     let mut done = state.standing.done;
@@ -232,9 +232,9 @@ pub fn play(
 }
 
 // Writes the one line of a trace without an event.
-pub fn only_line(stop: Stop, standing: Standing, out: &mut [u8]) -> Work
+fn only_line(stop: Stop, standing: Standing, out: &mut [u8]) -> Work
     requires { ⌜ 100 ≤ length (now out) ⌝ }
-    ensures { λ r. ⌜ Lines stop standing r ⌝ }
+    ensures { λ r. ⌜ Lines stop standing r (now (out .exit)) ⌝ }
 {
     let put = last_line(stop, 0, 0, 0, out);
     let line = Standing { put, ..standing };
@@ -257,7 +257,7 @@ fn start(
     requires { ⌜ Sound (length (now src)) (length (now out)) standing ⌝ }
     requires { ⌜ Roomy (length (now src)) (length (now out)) ⌝ }
     requires { ⌜ Fitting settings (length (now table)) (length (now links)) (length (now pool)) × (length (now sent) ≡ 12) × (length (now bytes) ≡ 16384) ⌝ }
-    ensures { λ r. ⌜ Started settings standing (now (src .entry)) (now (out .entry)) r ⌝ }
+    ensures { λ r. ⌜ Started settings standing (now (src .entry)) (now (out .entry)) r (lent (now (table .exit)) (now (links .exit)) (now (pool .exit)) (now (src .exit)) (now (out .exit))) ⌝ }
 {
     let created = connection_open::new(settings, table, links, pool);
     match created {
@@ -286,7 +286,7 @@ pub fn replay(
     out: &mut [u8],
 ) -> Work
     requires { ⌜ (2700 ≤ length (now table)) × (616 ≤ length (now links)) × (630784 ≤ length (now pool)) × (length (now sent) ≡ 12) × (length (now bytes) ≡ 16384) × Roomy (length (now src)) (length (now out)) ⌝ }
-    ensures { λ r. ⌜ Performs r ⌝ }
+    ensures { λ r. ⌜ Performs (now (out .entry)) r (now (src .exit)) (now (out .exit)) ⌝ }
 {
     let filled = filter::fill(src, SETTINGS);
     if filled.done {

@@ -37,7 +37,7 @@ same-length c = search needs
 returns : tie.Need-returns
 returns c =
     let k = c .before .before .before .fill in
-    unread-performs (k .result .have) (k .last .0) _ (k .ensures .failed (c .if1 .taken))
+    unread-performs (k .result .have) (k .last .0) _ _ (k .ensures .failed (c .if1 .taken))
 
 slice-reshare-prefix-begin : tie.Need-slice-reshare-prefix-begin
 slice-reshare-prefix-begin c = search needs
@@ -125,7 +125,7 @@ same-length-10 c = search needs
 returns-3 : tie.Need-returns-3
 returns-3 c =
     let k = c .before .before .before .before .before .before .before .before .before .before .before .before .fill in
-    line-performs (k .result) (k .last .0) _ _ (k .ensures .live (c .before .before .before .before .before .before .before .before .before .if1 .left)) (k .ensures .enough) (inside (c .before .before .before .before .before .before .before .before .before .before .before .before)) (sym (c .before .before .before .before .before .before .before .begin .ensures) ∙ c .before .before .before .before .before .begun2 .given .1) (c .before .before .only-line .ensures)
+    line-performs (k .result) (k .last .0) _ _ _ (k .ensures .live (c .before .before .before .before .before .before .before .before .before .if1 .left)) (k .ensures .enough) (inside (c .before .before .before .before .before .before .before .before .before .before .before .before)) (sym (c .before .before .before .before .before .before .before .begin .ensures) ∙ c .before .before .before .before .before .begun2 .given .1) (c .before .before .only-line .ensures)
 
 pub replay-spec : {M : Type 1} → statement M
 replay-spec =
