@@ -236,13 +236,13 @@ module _ (a : Account) (s : State) (m : Lent) (z : Stands a s m) (b : Account) (
           start = ([], ap output (sym (append-nil (a .brought))) ∙ e [] (λ g. refl) ∙ sym (append-nil (a .put ++ (lines ++ line))));
           all = λ g w next n. e next (λ h. n (same ∙ h));
           line = λ g w. record {
-              front = a .put ++ lines;
-              why = k .report .stop;
-              left = s .standing .have - k .report .place .at;
-              applied = k .report .place .applied;
-              growth = k .report .connection .growth;
-              is = ap output (sym (append-nil (a .brought))) ∙ e [] (λ g. refl) ∙ sym (append-assoc (a .put) lines line);
-              there = there;
+            front = a .put ++ lines;
+            why = k .report .stop;
+            left = s .standing .have - k .report .place .at;
+            applied = k .report .place .applied;
+            growth = k .report .connection .growth;
+            is = ap output (sym (append-nil (a .brought))) ∙ e [] (λ g. refl) ∙ sym (append-assoc (a .put) lines line);
+            there = there;
           };
         };
       })
