@@ -16,11 +16,13 @@ pub struct Standing {
     pub work: Work,
 }
 
-// Every read and write did its work, or one failed: a read, or a write. The program whose work it is says so by its own name.
+// Every read and write did its work, or one failed: a read, or a write; or there was none, for what was lent is of a wrong size. The program
+// whose work it is says so by its own name.
 pub enum Work {
     Whole,
     Unread,
     Unwritten,
+    Unlent,
 }
 
 // What a read brought: as many bytes are there now, or the input has ended, or it failed.

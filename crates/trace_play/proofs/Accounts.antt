@@ -29,7 +29,7 @@ use Rattle.filter.specs.Parts.{kept, Inside, afterRead, afterWrite, Flushed, Fe
 use Rattle.filter.specs.Account.{Account, nothing, reads, writes, then, Prefix}
 use Rattle.filter.specs.declared.Standing.{Standing}
 use Rattle.filter.specs.declared.Work.{Work}
-use Rattle.filter.specs.declared.Work.the-variants.{Whole, Unread, Unwritten}
+use Rattle.filter.specs.declared.Work.the-variants.{Whole, Unread, Unwritten, Unlent}
 use Rattle.filter.specs.declared.Got.{Got}
 use Rattle.filter.specs.declared.Got.the-variants.{More, End, Failed}
 use Rattle.trace_play.specs.Places.{nextTask, placeOf, afterRun, moved}
@@ -42,6 +42,7 @@ abbrev worked : Work → Bool
 worked Whole = true
 worked Unread = false
 worked Unwritten = false
+worked Unlent = false
 
 -- the state that is reached
 abbrev conn : State → Lent → Conn
@@ -316,10 +317,10 @@ none-after s next false why h n e = go (settings-more s next)
 -- Of the bytes that its reads brought, in order, what the program put to be written is the start of what is printed for them. Where every
 -- read and write did its work it is all of it, for the program ends where the input has ended, or where nothing that may come would be
 -- printed; and the room for lines holds the last line.
-pub performed : {room : List ℕ} {b : Account} {r : Work} {input′ room′ : List ℕ} (p : Performed room b r input′ room′)
+pub performed : {m : Lent} {b : Account} {r : Work} {m′ : Lent} (p : Performed m b r m′)
     → Prefix (b .put) (output (b .brought))
     × (r ≡ Whole → (next : List ℕ) → (isEnded p ≡ true → next ≡ []) → output (b .brought ++ next) ≡ b .put)
-    × (r ≡ Whole → Lasts (output (b .brought)) room′)
+    × (r ≡ Whole → Lasts (output (b .brought)) (m′ .room))
 performed (unread have input) = ((_, refl), λ e next n. never (sym (ap worked e)), λ e. never (sym (ap worked e)))
 performed (unreached {b} {room′} have ended input why r n h e o) =
     let p : b ≡ writes (lastLine why 0 0 0) = o .flushed .puts ∙ ap writes (o .text) in
@@ -330,7 +331,7 @@ performed (unreached {b} {room′} have ended input why r n h e o) =
       λ q next f. none-after (take have input) next ended why (λ i. rw l (n i)) f e,
       λ q. record { front = []; why = why; left = 0; applied = 0; growth = 0; is = printed; there = stands-there (o .end) room′ _ (o .text) },
     )
-performed {room} (played {m′} have ended input t z next r n h e q) =
+performed {m} (played {m′} have ended input t z next r n h e q) =
     let done = q .ended .done in
     let whole : r ≡ Whole → q .ended .state .standing .work ≡ Whole = λ w. sym (q .ended .work) ∙ w in
     (last .start, λ w later f. last .all done (whole w) later f, λ w. last .line done (whole w))
@@ -338,10 +339,10 @@ performed {room} (played {m′} have ended input t z next r n h e q) =
     first : State
     first = record { connection = q .connection; applied = 0; standing = record { at = next; have = have; put = 0; ended = ended; done = false; work = Whole } }
 
-    m : Lent
-    m = lent (q .table) (q .links) (q .pool) input room
+    made : Lent
+    made = lent (q .table) (q .links) (q .pool) input (m .room)
 
-    here : Stands (reads (take have input)) first m
+    here : Stands (reads (take have input)) first made
     here =
         let f = events-reached (take have input) t z next e in
         record {
@@ -354,6 +355,6 @@ performed {room} (played {m′} have ended input t z next r n h e q) =
 
     last : Told (then (reads (take have input)) (q .ended .account)) (q .ended .state) (m′ .room)
     last =
-        plays-after (reads (take have input)) first m
-        (record { stands = λ d. here; told = record { start = starts (reads (take have input)) first m here; all = λ d w later n. never (sym d); line = λ d w. never (sym d) } })
+        plays-after (reads (take have input)) first made
+        (record { stands = λ d. here; told = record { start = starts (reads (take have input)) first made here; all = λ d w later n. never (sym d); line = λ d w. never (sym d) } })
         (q .ended .plays) .told

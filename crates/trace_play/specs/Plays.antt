@@ -23,7 +23,7 @@ use Rattle.filter.specs.Parts.{holding, Flushed, Fed}
 use Rattle.filter.specs.Account.{Account, nothing, reads, then}
 use Rattle.filter.specs.declared.Standing.{Standing}
 use Rattle.filter.specs.declared.Work.{Work}
-use Rattle.filter.specs.declared.Work.the-variants.{Whole, Unread}
+use Rattle.filter.specs.declared.Work.the-variants.{Whole, Unread, Unlent}
 use Rattle.trace_play.specs.Places.{nextTask, placeOf, afterRun, moved}
 use Rattle.trace_play.specs.declared.State.{State}
 use Rattle.trace_play.specs.declared.Task.{Task}
@@ -78,6 +78,10 @@ pub record Lent : Type 0 where
 
 abbrev pub lent : List ℕ → List ℕ → List ℕ → List ℕ → List ℕ → Lent
 lent t l p input room = record { table = t; links = l; pool = p; input = input; room = room }
+
+-- as much of table, links and pool as is asked for
+abbrev pub fronts : Sizes → Lent → Lent
+fronts z m = lent (take (z .table) (m .table)) (take (z .links) (m .links)) (take (z .pool) (m .pool)) (m .input) (m .room)
 
 -- A turn is a run over what was read and not yet taken, and what follows it.
 pub record Played (s : State) (m : Lent) (b : Account) (s′ : State) (m′ : Lent) : Type 0 where
@@ -136,22 +140,27 @@ Lines why x r room′ = (b : Account) × OnlyLine why x b r room′
 abbrev pub Enough : ℕ → Bool → Type 0
 Enough have ended = ended ≡ false → 100 ≤ have
 
--- What the program does with a standard input, from what the room for lines held to what the input's buffer and the room hold after it, and the
--- work that reads and writes did: the settings are not read, or no event is reached and the last line is put, or the events are played from
--- the place after the settings on.
-pub data Performed (room : List ℕ) : Account → Work → List ℕ → List ℕ → Type 0 where
-  unread : (have : ℕ) (input : List ℕ) → Performed room (reads (take have input)) Unread input room
+-- What the program does with a standard input, from what is lent to what is in it after, and the work that reads and writes did: the settings
+-- are not read, or no event is reached and the last line is put, or the events are played from the place after the settings on, in as much of
+-- table, links and pool as the settings ask for.
+pub data Performed (m : Lent) : Account → Work → Lent → Type 0 where
+  unread : (have : ℕ) (input : List ℕ) → Performed m (reads (take have input)) Unread (lent (m .table) (m .links) (m .pool) input (m .room))
   unreached : {b : Account} {room′ : List ℕ} (have : ℕ) (ended : Bool) (input : List ℕ) (why : Stop) (r : Work) → Enough have ended → have ≤ length input → begunAs (settingsAt (take have input)) ≡ begun.Stop why → OnlyLine why (holding have ended) b r room′
-      → Performed room (then (reads (take have input)) b) r input room′
+      → Performed m (then (reads (take have input)) b) r (lent (m .table) (m .links) (m .pool) input room′)
   played : {m′ : Lent} (have : ℕ) (ended : Bool) (input : List ℕ) (t : Settings) (z : Sizes) (next : ℕ) (r : Work) → Enough have ended → have ≤ length input → begunAs (settingsAt (take have input)) ≡ begun.Fine t z next
-      → (e : Started t (record { at = next; have = have; put = 0; ended = ended; done = false; work = Whole }) input room r m′)
-      → Performed room (then (reads (take have input)) (e .ended .account)) r (m′ .input) (m′ .room)
+      → (e : Started t (record { at = next; have = have; put = 0; ended = ended; done = false; work = Whole }) input (m .room) r (fronts z m′))
+      → Performed m (then (reads (take have input)) (e .ended .account)) r m′
 
 -- whether a read said that the input has ended
-abbrev pub isEnded : {room : List ℕ} {b : Account} {r : Work} {input′ room′ : List ℕ} → Performed room b r input′ room′ → Bool
+abbrev pub isEnded : {m : Lent} {b : Account} {r : Work} {m′ : Lent} → Performed m b r m′ → Bool
 isEnded (unread have input) = false
 isEnded (unreached have ended input why r n h e o) = ended
 isEnded (played have ended input t z next r n h e q) = q .ended .state .standing .ended
 
-abbrev pub Performs : List ℕ → Work → List ℕ → List ℕ → Type 0
-Performs room r input′ room′ = (b : Account) × Performed room b r input′ room′
+abbrev pub Performs : Lent → Work → Lent → Type 0
+Performs m r m′ = (b : Account) × Performed m b r m′
+
+-- where what is lent is of a wrong size, that is said, and nothing is done
+abbrev pub Replays : Bool → Lent → Work → Lent → Type 0
+Replays true m r m′ = Performs m r m′
+Replays false m r m′ = (r ≡ Unlent) × (m′ ≡ m)

@@ -5,22 +5,24 @@ ghost use Prim.Native.Nat.{_≤_};
 ghost use lib.ListN.{length, take};
 ghost use Rattle.connection.specs.Abstract.{Valid};
 ghost use Rattle.trace.specs.Output.{lastLine};
-ghost use Rattle.trace.specs.Turns.{Lacks};
-ghost use Rattle.trace_play.specs.Places.{endOf, nextTask, placeOf, afterRun, Sound, Roomy, Nears};
-ghost use Rattle.trace_play.specs.Plays.{lent, Goes, Closes, Lines, Turns, Ended, Fitting, Started, Performs};
+ghost use Rattle.trace.specs.Turns.{Lacks, Untouched};
+ghost use Rattle.trace_play.specs.Places.{endOf, nextTask, placeOf, afterRun, Sound, Roomy, Nears, sizedFor};
+ghost use Rattle.trace_play.specs.Plays.{lent, Goes, Closes, Lines, Turns, Ended, Fitting, Started, Performs, Replays};
 use connection::Connection;
 use connection_open::Created;
 use filter::Standing;
 use filter::Work;
+use frame::header::HEADER_SIZE;
 use rules::Settings;
 use trace::Begun;
 use trace::Place;
 use trace::Report;
 use trace::Stop;
+use trace_lines::LONGEST_LINE;
 use trace_lines::Put;
 
 // The connection, the events applied, and where the program stands in its input and its output.
-pub struct State {
+struct State {
     pub connection: Connection,
     pub applied: u64,
     pub standing: Standing,
@@ -37,6 +39,17 @@ const ALLOWANCE: u64 = 1000000;
 
 // As many bytes as settings can take.
 const SETTINGS: usize = 100;
+
+// What 300 slots and a pool of 16,384 bytes take.
+const TABLE: usize = 2700;
+
+const LINKS: usize = 616;
+
+const POOL: usize = 630784;
+
+const LONGEST_READ: usize = 16384;
+
+const LONGEST_EVENT: usize = 16424;
 
 // What follows a run that stopped so: lines are written where there was no room for one more, and more is read where the input goes on.
 fn next_task(stop: Stop, ended: bool) -> Task
@@ -274,9 +287,8 @@ fn start(
     }
 }
 
-// Plays standard input in lent memory, which is enough for 300 slots and a pool of 16,384 bytes. Returns the work that reads and
-// writes did.
-pub fn replay(
+// Plays standard input in memory that is enough. Returns the work that reads and writes did.
+fn perform(
     table: &mut [u64],
     links: &mut [u32],
     pool: &mut [u8],
@@ -286,7 +298,7 @@ pub fn replay(
     out: &mut [u8],
 ) -> Work
     requires { ⌜ (2700 ≤ length (now table)) × (616 ≤ length (now links)) × (630784 ≤ length (now pool)) × (length (now sent) ≡ 12) × (length (now bytes) ≡ 16384) × Roomy (length (now src)) (length (now out)) ⌝ }
-    ensures { λ r. ⌜ Performs (now (out .entry)) r (now (src .exit)) (now (out .exit)) ⌝ }
+    ensures { λ r. ⌜ Performs (lent (now (table .entry)) (now (links .entry)) (now (pool .entry)) (now (src .entry)) (now (out .entry))) r (lent (now (table .exit)) (now (links .exit)) (now (pool .exit)) (now (src .exit)) (now (out .exit))) ⌝ }
 {
     let filled = filter::fill(src, SETTINGS);
     if filled.done {
@@ -314,4 +326,65 @@ pub fn replay(
         }
         Begun::Stop(stop) => only_line(stop, filled, out),
     }
+}
+
+// Whether what is lent is enough for 300 slots and a pool of 16,384 bytes, for a header and the longest read, and for the longest event and line.
+fn sized_for(
+    table: usize,
+    links: usize,
+    pool: usize,
+    sent: usize,
+    bytes: usize,
+    src: usize,
+    out: usize,
+) -> bool
+    ensures { λ r. ⌜ r ≡ sizedFor table links pool sent bytes src out ⌝ }
+{
+    if table < TABLE {
+        return false;
+    }
+    if links < LINKS {
+        return false;
+    }
+    if pool < POOL {
+        return false;
+    }
+    if sent != HEADER_SIZE {
+        return false;
+    }
+    if bytes != LONGEST_READ {
+        return false;
+    }
+    if src < LONGEST_EVENT {
+        return false;
+    }
+    LONGEST_LINE <= out
+}
+
+// Plays standard input in lent memory, which is judged first. Returns the work that reads and writes did.
+pub fn replay(
+    table: &mut [u64],
+    links: &mut [u32],
+    pool: &mut [u8],
+    sent: &mut [u8],
+    bytes: &mut [u8],
+    src: &mut [u8],
+    out: &mut [u8],
+) -> Work
+    ensures { λ r. ⌜ Replays (sizedFor (length (now (table .entry))) (length (now (links .entry))) (length (now (pool .entry))) (length (now (sent .entry))) (length (now (bytes .entry))) (length (now (src .entry))) (length (now (out .entry)))) (lent (now (table .entry)) (now (links .entry)) (now (pool .entry)) (now (src .entry)) (now (out .entry))) r (lent (now (table .exit)) (now (links .exit)) (now (pool .exit)) (now (src .exit)) (now (out .exit))) ⌝ }
+    ensures { λ _. ⌜ Untouched (sizedFor (length (now (table .entry))) (length (now (links .entry))) (length (now (pool .entry))) (length (now (sent .entry))) (length (now (bytes .entry))) (length (now (src .entry))) (length (now (out .entry)))) (now (sent .entry)) (now (bytes .entry)) (now (sent .exit)) (now (bytes .exit)) ⌝ }
+{
+    let right = sized_for(
+        table.len(),
+        links.len(),
+        pool.len(),
+        sent.len(),
+        bytes.len(),
+        src.len(),
+        out.len(),
+    );
+    if !right {
+        return Work::Unlent;
+    }
+    perform(table, links, pool, sent, bytes, src, out)
 }
