@@ -7,7 +7,7 @@ use filter::Work;
 // Plays standard input in memory of its own. Its contract is the program's, for a `main` can have none. No contract can name a function's own
 // memory, so this says that there is such.
 fn run() -> Work
-    ensures { λ r. ⌜ (m : Lent) × ((m′ : Lent) × Performs m r m′) ⌝ }
+    ensures { λ r. ⌜ ((m : Lent) × ((m′ : Lent) × Performs m r m′)) ⌝ }
 {
     let mut table = room::largest_table();
     let mut links = room::largest_links();
