@@ -34,6 +34,7 @@ use Rattle.filter.specs.declared.Standing.{Standing}
 use Rattle.filter.specs.declared.Work.{Work}
 use Rattle.filter.specs.declared.Work.the-variants.{Unread}
 use Rattle.trace_events.specs.Calls.{longest}
+use Rattle.trace_lines.specs.Writing.{longestLine}
 use Rattle.trace_play.specs.Places.{Roomy, sizedFor}
 use Rattle.trace_play.specs.Plays.{Lent, lent, Fitting, Started, OnlyLine, Lines, Enough, Performed, Performs, unread, unreached, played}
 
@@ -121,7 +122,7 @@ enough t l p sent bytes input room e =
     let a = both (leb 2700 t) _ e in
     let b = both (leb 616 l) _ (a .1) in
     let c = both (leb 630784 p) _ (b .1) in
-    let d = both (eqb sent 12) _ (c .1) in
-    let f = both (eqb bytes 16384) _ (d .1) in
-    let g = both (leb longest input) _ (f .1) in
-    (leb-true _ _ (a .0), leb-true _ _ (b .0), leb-true _ _ (c .0), eqb-true _ _ (d .0), eqb-true _ _ (f .0), (leb-true _ _ (g .0), leb-true _ _ (g .1)))
+    let d = both (leb longest input) _ (c .1) in
+    let f = both (leb longestLine room) _ (d .1) in
+    let g = both (eqb sent 12) _ (f .1) in
+    (leb-true _ _ (a .0), leb-true _ _ (b .0), leb-true _ _ (c .0), eqb-true _ _ (g .0), eqb-true _ _ (g .1), (leb-true _ _ (d .0), leb-true _ _ (f .0)))

@@ -61,13 +61,13 @@ Sound input room x = (x .at ≤ x .have) × (x .have ≤ input) × (x .put ≤ r
 abbrev pub Roomy : ℕ → ℕ → Type 0
 Roomy input room = (longest ≤ input) × (longestLine ≤ room)
 
--- What is lent is enough for 300 slots and a pool of 16,384 bytes, is a header and the longest read, and can hold the longest event and the
--- longest line.
+-- What is lent is enough for 300 slots and a pool of 16,384 bytes, can hold the longest event and the longest line, and is a header and the
+-- longest read.
 abbrev pub sizedFor : ℕ → ℕ → ℕ → ℕ → ℕ → ℕ → ℕ → Bool
 sizedFor table links pool sent bytes input room =
     cond (leb 2700 table)
     (cond (leb 616 links)
-    (cond (leb 630784 pool) (cond (eqb sent 12) (cond (eqb bytes 16384) (cond (leb longest input) (leb longestLine room) false) false) false) false) false) false
+    (cond (leb 630784 pool) (cond (leb longest input) (cond (leb longestLine room) (cond (eqb sent 12) (eqb bytes 16384) false) false) false) false) false) false
 
 -- 1 where there is any
 abbrev pub some : ℕ → ℕ

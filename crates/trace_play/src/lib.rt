@@ -328,7 +328,7 @@ fn perform(
     }
 }
 
-// Whether what is lent is enough for 300 slots and a pool of 16,384 bytes, for a header and the longest read, and for the longest event and line.
+// Whether what is lent is enough for 300 slots and a pool of 16,384 bytes and for the longest event and line, and is a header and the longest read.
 fn sized_for(
     table: usize,
     links: usize,
@@ -349,16 +349,16 @@ fn sized_for(
     if pool < POOL {
         return false;
     }
-    if sent != HEADER_SIZE {
-        return false;
-    }
-    if bytes != LONGEST_READ {
-        return false;
-    }
     if src < LONGEST_EVENT {
         return false;
     }
-    LONGEST_LINE <= out
+    if out < LONGEST_LINE {
+        return false;
+    }
+    if sent != HEADER_SIZE {
+        return false;
+    }
+    bytes == LONGEST_READ
 }
 
 // Plays standard input in lent memory, which is judged first. Returns the work that reads and writes did.

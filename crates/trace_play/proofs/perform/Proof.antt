@@ -122,7 +122,7 @@ returns-2 c =
     let b = c .before .before .before .before .before .before .before .before .before .before .before .before .before .before .before .before .before .before .before .before .before .before .before in
     let w = c .before .before .before .before .before .before .before .before .before .before .before .before .before .before .start in
     let f = fits b in
-    plays m (k .result) (k .last .0) _ (b .begun .given .0 .1 .0) _ _ _ _ _ (w .kept .1 .0 ∙ length-take-le _ _ (f .0)) (w .kept .1 .1 .0 ∙ length-take-le _ _ (f .1)) (w .kept .1 .1 .1 .0 ∙ length-take-le _ _ (f .2)) (k .ensures .live (c .before .before .before .before .before .before .before .before .before .before .before .before .before .before .before .before .before .before .before .before .before .before .before .before .before .before .before .if1 .left)) (k .ensures .enough) (inside (c .before .before .before .before .before .before .before .before .before .before .before .before .before .before .before .before .before .before .before .before .before .before .before .before .before .before .before .before .before .before)) (sym (c .before .before .before .before .before .before .before .before .before .before .before .before .before .before .before .before .before .before .before .before .before .before .before .before .before .begin .ensures) ∙ b .begun .given .1) (w .ensures)
+    plays m (k .result) (k .last .0) (b .begun .given .0 .0) (b .begun .given .0 .1 .0) (b .begun .given .0 .1 .1 .0) (w .result) _ _ _ (w .kept .1 .0 ∙ length-take-le _ _ (f .0)) (w .kept .1 .1 .0 ∙ length-take-le _ _ (f .1)) (w .kept .1 .1 .1 .0 ∙ length-take-le _ _ (f .2)) (k .ensures .live (c .before .before .before .before .before .before .before .before .before .before .before .before .before .before .before .before .before .before .before .before .before .before .before .before .before .before .before .if1 .left)) (k .ensures .enough) (inside (c .before .before .before .before .before .before .before .before .before .before .before .before .before .before .before .before .before .before .before .before .before .before .before .before .before .before .before .before .before .before)) (sym (c .before .before .before .before .before .before .before .before .before .before .before .before .before .before .before .before .before .before .before .before .before .before .before .before .before .begin .ensures) ∙ b .begun .given .1) (w .ensures)
 
 same-length-9 : tie.Need-same-length-9
 same-length-9 c = search needs
