@@ -1,7 +1,7 @@
 // What programs share that read standard input in parts and write standard output: where such a program stands, a read and a write.
 ghost use mathlib.Core.Path.{_≡_};
 ghost use mathlib.Core.List.{_++_};
-ghost use Prim.Native.Nat.{_≤_, _<_};
+ghost use Prim.Native.Nat.{min, _≤_};
 ghost use lib.ListN.{length, take, drop};
 ghost use Rattle.filter.specs.Parts.{kept, Inside, answered, first, afterRead, afterWrite, Flushes, Feeds, Fills};
 
@@ -16,11 +16,13 @@ pub struct Standing {
     pub work: Work,
 }
 
-// Every read and write did its work, or one failed: a read, or a write. The program whose work it is says so by its own name.
+// Every read and write did its work, or one failed: a read, or a write; or there was none, for what was lent is of a wrong size. The program
+// whose work it is says so by its own name.
 pub enum Work {
     Whole,
     Unread,
     Unwritten,
+    Unlent,
 }
 
 // What a read brought: as many bytes are there now, or the input has ended, or it failed.
@@ -43,15 +45,17 @@ fn answered(got: isize, have: usize, end: usize) -> Got
     Got::More(end)
 }
 
-// Reads once, after the first bytes of the buffer.
+// Reads once, after the first bytes of the buffer: nothing can be brought where they fill it.
 fn read_more(src: &mut [u8], have: usize) -> Got
-    requires { ⌜ have < length (now src) ⌝ }
     ensures { λ r. ⌜ Inside have (length (now (src .entry))) r ⌝ }
     ensures { λ _. ⌜ take have (now (src .exit)) ≡ take have (now (src .entry)) ⌝ }
 {
-    let got = libc::read(0, &mut src[have..]);
-    let n = io::count(got, &src[have..]);
-    answered(got, have, have + n)
+    if have < src.len() {
+        let got = libc::read(0, &mut src[have..]);
+        let n = io::count(got, &src[have..]);
+        return answered(got, have, have + n);
+    }
+    Got::Failed
 }
 
 // Moves the bytes between two places to the front, and returns how many they are: none where they are not all there.
@@ -129,7 +133,6 @@ pub fn after_write(s: Standing, written: bool) -> Standing
 
 // Moves what is left of the input to the front of the buffer, and reads more.
 pub fn feed(s: Standing, src: &mut [u8]) -> Standing
-    requires { ⌜ length (kept (now src) (s .at) (s .have)) < length (now src) ⌝ }
     ensures { λ r. ⌜ Feeds s (now (src .entry)) r (now (src .exit)) ⌝ }
 {
     let front = keep_rest(src, s.at, s.have);
@@ -137,19 +140,24 @@ pub fn feed(s: Standing, src: &mut [u8]) -> Standing
     after_read(s, front, got)
 }
 
-// Writes what was put.
+// The lesser of the two.
+fn least(a: usize, b: usize) -> usize
+    ensures { λ r. ⌜ r ≡ min a b ⌝ }
+{
+    if a < b { a } else { b }
+}
+
+// Writes what was put: no more than the room holds.
 pub fn flush(s: Standing, out: &[u8]) -> Standing
-    requires { ⌜ s .put ≤ length (now out) ⌝ }
     ensures { λ r. ⌜ Flushes s (now (out .entry)) r ⌝ }
 {
-    let put = s.put;
+    let put = least(s.put, out.len());
     let written = io::write_all(1, &out[..put]);
     after_write(s, written)
 }
 
-// Reads until `least` bytes are there, the input ends or a read fails.
+// Reads until `least` bytes are there, the input ends or a read fails, as one into a full buffer does.
 pub fn fill(src: &mut [u8], least: usize) -> Standing
-    requires { ⌜ least ≤ length (now src) ⌝ }
     ensures { λ r. ⌜ Fills least (length (now (src .entry))) r ⌝ }
 {
     let mut s = first();

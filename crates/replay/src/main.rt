@@ -1,12 +1,13 @@
 // Replays a trace: standard input in parts, and to standard output a line for each event and the last line.
 mod room;
 
-ghost use Rattle.trace_play.specs.Plays.{Performs};
+ghost use Rattle.trace_play.specs.Plays.{Lent, Performs};
 use filter::Work;
 
-// Plays standard input in memory of its own. Its contract is the program's, for a `main` can have none.
+// Plays standard input in memory of its own. Its contract is the program's, for a `main` can have none. No contract can name a function's own
+// memory, so this says that there is such.
 fn run() -> Work
-    ensures { λ r. ⌜ Performs r ⌝ }
+    ensures { λ r. ⌜ ((m : Lent) × ((m′ : Lent) × Performs m r m′)) ⌝ }
 {
     let mut table = room::largest_table();
     let mut links = room::largest_links();
@@ -36,5 +37,7 @@ fn main() {
         Work::Unwritten => {
             io::write_all(2, b"replay: cannot write standard output\n");
         }
+        // never: what is lent is enough
+        Work::Unlent => {}
     }
 }

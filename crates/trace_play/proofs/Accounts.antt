@@ -29,7 +29,7 @@ use Rattle.filter.specs.Parts.{kept, Inside, afterRead, afterWrite, Flushed, Fe
 use Rattle.filter.specs.Account.{Account, nothing, reads, writes, then, Prefix}
 use Rattle.filter.specs.declared.Standing.{Standing}
 use Rattle.filter.specs.declared.Work.{Work}
-use Rattle.filter.specs.declared.Work.the-variants.{Whole, Unread, Unwritten}
+use Rattle.filter.specs.declared.Work.the-variants.{Whole, Unread, Unwritten, Unlent}
 use Rattle.filter.specs.declared.Got.{Got}
 use Rattle.filter.specs.declared.Got.the-variants.{More, End, Failed}
 use Rattle.trace_play.specs.Places.{nextTask, placeOf, afterRun, moved}
@@ -42,6 +42,7 @@ abbrev worked : Work → Bool
 worked Whole = true
 worked Unread = false
 worked Unwritten = false
+worked Unlent = false
 
 -- the state that is reached
 abbrev conn : State → Lent → Conn
@@ -60,15 +61,29 @@ pub record Stands (a : Account) (s : State) (m : Lent) : Type 0 where
   pub put : s .standing .put ≤ length (m .room)
   pub owes : (next : List ℕ) → output (a .brought ++ next) ≡ a .put ++ (take (s .standing .put) (m .room) ++ remaining (s .applied) (conn s m) (rest s m ++ next))
 
+-- The last line of a text stands at the room's start.
+pub record Lasts (text room : List ℕ) : Type 0 where
+  pub front : List ℕ
+  pub why : Stop
+  pub left : ℕ
+  pub applied : ℕ
+  pub growth : ℕ
+  pub is : text ≡ front ++ lastLine why left applied growth
+  pub there : Prefix (lastLine why left applied growth) room
+
 -- What was put is the start of what is printed for all that was brought; and all of it where all is done and every read and write did its
--- work, whatever comes after where the input has not ended.
-pub record Told (a : Account) (s : State) : Type 0 where
+-- work, whatever comes after where the input has not ended: then the room holds the last line.
+pub record Told (a : Account) (s : State) (room : List ℕ) : Type 0 where
   pub start : Prefix (a .put) (output (a .brought))
   pub all : s .standing .done ≡ true → s .standing .work ≡ Whole → (next : List ℕ) → (s .standing .ended ≡ true → next ≡ []) → output (a .brought ++ next) ≡ a .put
+  pub line : s .standing .done ≡ true → s .standing .work ≡ Whole → Lasts (output (a .brought)) room
 
 pub record After (a : Account) (s : State) (m : Lent) : Type 0 where
   pub stands : s .standing .done ≡ false → Stands a s m
-  pub told : Told a s
+  pub told : Told a s (m .room)
+
+stands-there : (end : ℕ) (room line : List ℕ) → take end room ≡ line → Prefix line room
+stands-there end room line e = (drop end room, sym (take-append-drop end room) ∙ ap (λ (l : List ℕ). l ++ drop end room) e)
 
 starts : (a : Account) (s : State) (m : Lent) → Stands a s m → Prefix (a .put) (output (a .brought))
 starts a s m z = (_, rw append-nil at (z .owes []))
@@ -138,8 +153,8 @@ module _ (a : Account) (s : State) (m : Lent) (z : Stands a s m) (live : s .stan
     wrote-stands false = record { valid = z .valid; at = z .at; have = z .have; put = omega arith; owes = λ next. rw (append-nil, append-assoc) (z .owes next) }
 
     wrote-told : (written : Bool) → After (then a (writes (take (s .standing .put) (m .room)))) (moved s (afterWrite (s .standing) written)) m
-    wrote-told true = record { stands = λ d. wrote-stands true; told = record { start = starts _ _ _ (wrote-stands true); all = λ d w next n. never (sym d ∙ live) } }
-    wrote-told false = record { stands = λ d. wrote-stands false; told = record { start = starts _ _ _ (wrote-stands false); all = λ d w next n. never (sym (ap worked w)) } }
+    wrote-told true = record { stands = λ d. wrote-stands true; told = record { start = starts _ _ _ (wrote-stands true); all = λ d w next n. never (sym d ∙ live); line = λ d w. never (sym d ∙ live) } }
+    wrote-told false = record { stands = λ d. wrote-stands false; told = record { start = starts _ _ _ (wrote-stands false); all = λ d w next n. never (sym (ap worked w)); line = λ d w. never (sym (ap worked w)) } }
 
     wrote-after : After (then a b) s′ m
     wrote-after =
@@ -189,7 +204,7 @@ module _ (a : Account) (s : State) (m : Lent) (z : Stands a s m) (live : s .stan
     took-after : After (then a b) s′ (lent (m .table) (m .links) (m .pool) input′ (m .room))
     took-after =
         subst (λ (y : State). After (then a b) y (lent (m .table) (m .links) (m .pool) input′ (m .room))) (sym (t .is))
-        (rw (t .fed .brings) (record { stands = λ d. took-stands; told = record { start = starts _ _ _ took-stands; all = λ d w next n. absurd (ended (t .fed .got) (t .fed .is) d w) } }))
+        (rw (t .fed .brings) (record { stands = λ d. took-stands; told = record { start = starts _ _ _ took-stands; all = λ d w next n. absurd (ended (t .fed .got) (t .fed .is) d w); line = λ d w. absurd (ended (t .fed .got) (t .fed .is) d w) } }))
 
 -- ---- a turn
 
@@ -214,13 +229,22 @@ module _ (a : Account) (s : State) (m : Lent) (z : Stands a s m) (b : Account) (
   Ends = (next : List ℕ) → (s .standing .ended ≡ true → next ≡ []) → output (a .brought ++ next) ≡ a .put ++ (lines ++ line)
 
   -- all is done where the last line did its work
-  whole-after : (c d : Account) (y : Standing) → Ends → y .ended ≡ s .standing .ended → c ≡ writes lines → d ≡ writes line → After (then a (then c d)) (moved s₁ (over y)) m′
-  whole-after c d y e same p q =
+  whole-after : (c d : Account) (y : Standing) → Ends → y .ended ≡ s .standing .ended → c ≡ writes lines → d ≡ writes line → Prefix line (m′ .room) → After (then a (then c d)) (moved s₁ (over y)) m′
+  whole-after c d y e same p q there =
       rw (p, q, append-nil (a .brought)) (record {
         stands = λ g. never g;
         told = record {
           start = ([], ap output (sym (append-nil (a .brought))) ∙ e [] (λ g. refl) ∙ sym (append-nil (a .put ++ (lines ++ line))));
           all = λ g w next n. e next (λ h. n (same ∙ h));
+          line = λ g w. record {
+            front = a .put ++ lines;
+            why = k .report .stop;
+            left = s .standing .have - k .report .place .at;
+            applied = k .report .place .applied;
+            growth = k .report .connection .growth;
+            is = ap output (sym (append-nil (a .brought))) ∙ e [] (λ g. refl) ∙ sym (append-assoc (a .put) lines line);
+            there = there;
+          };
         };
       })
 
@@ -228,15 +252,18 @@ module _ (a : Account) (s : State) (m : Lent) (z : Stands a s m) (b : Account) (
   broken-after c x e p f d =
       rw p (record {
         stands = λ g. never (sym d ∙ g);
-        told = record { start = (line, rw (append-nil, append-assoc) (rw append-nil at (e [] (λ g. refl)))); all = λ g w next n. never (sym (ap worked w) ∙ ap worked (unwritten (f .written) (f .is))) };
+        told = record { start = (line, rw (append-nil, append-assoc) (rw append-nil at (e [] (λ g. refl)))); all = λ g w next n. never (broke w); line = λ g w. never (broke w) };
       })
     where
       unwritten : (b : Bool) → x ≡ afterWrite (s₁ .standing) b → x .work ≡ Unwritten
       unwritten true q = never (sym d ∙ ap (λ (y : Standing). y .done) q ∙ k .live)
       unwritten false q = ap (λ (y : Standing). y .work) q
 
-  closed-after : (why : Stop) → k .report .stop ≡ why → ((next : List ℕ) → (s .standing .ended ≡ true → next ≡ []) → IsLast next why) → {b : Account} {s′ : State} → Closed why s₁ (k .written) b s′ → After (then a b) s′ m′
-  closed-after why e l c = go c
+      broke : x .work ≡ Whole → true ≡ false
+      broke w = sym (ap worked w) ∙ ap worked (unwritten (f .written) (f .is))
+
+  closed-after : (why : Stop) → k .report .stop ≡ why → ((next : List ℕ) → (s .standing .ended ≡ true → next ≡ []) → IsLast next why) → {b : Account} {s′ : State} → Closed why s₁ (k .written) b s′ (m′ .room) → After (then a b) s′ m′
+  closed-after why e l c = go c refl
     where
       all : Ends
       all next n = ran-ends a s m z (k .report) (m′ .table) (m′ .links) (m′ .pool) (k .written) (k .runs) next (rw e (l next n))
@@ -245,18 +272,20 @@ module _ (a : Account) (s : State) (m : Lent) (z : Stands a s m) (b : Account) (
       same x y true q = ap (λ (v : Standing). v .ended) q
       same x y false q = ap (λ (v : Standing). v .ended) q
 
-      go : {b : Account} {s′ : State} → Closed why s₁ (k .written) b s′ → After (then a b) s′ m′
-      go (broken {a} {x} f d) = broken-after a x all (f .puts) f d
-      go (last {a} {b} {x} {y} end room f d t g) = whole-after a b y all (same (putting x end) y (g .written) (g .is) ∙ same (s₁ .standing) x (f .written) (f .is)) (f .puts) (g .puts ∙ ap writes (t ∙ rw e))
+      go : {b : Account} {s′ : State} {room : List ℕ} → Closed why s₁ (k .written) b s′ room → m′ .room ≡ room → After (then a b) s′ m′
+      go (broken {a} {x} f d) i = broken-after a x all (f .puts) f d
+      go (last {a} {b} {x} {y} {room′} end f d t g) i =
+          let text : take end room′ ≡ line = t ∙ rw e in
+          whole-after a b y all (same (putting x end) y (g .written) (g .is) ∙ same (s₁ .standing) x (f .written) (f .is)) (f .puts) (g .puts ∙ ap writes text) (rw i (stands-there end room′ line text))
 
   goes-after : (why : Stop) (ended : Bool) → s .standing .ended ≡ ended → k .report .stop ≡ why → GoesOn (nextTask why ended) why s₁ (m .input) (k .written) b s′ (m′ .input) (m′ .room) → After (then a b) s′ m′
   goes-after stop.Full ended i e g =
       subst (After (then a b) s′) (λ i. record { table = m′ .table; links = m′ .links; pool = m′ .pool; input = sym (g .1) i; room = sym (g .2) i }) (wrote-after a s₁ m₁ here (k .live) b s′ (g .0))
-  goes-after stop.Short true i e g = closed-after stop.Short e (λ next n. n i) g
+  goes-after stop.Short true i e g = closed-after stop.Short e (λ next n. n i) (g .0)
   goes-after stop.Short false i e g = subst (λ (o : List ℕ). After (then a b) s′ (lent (m′ .table) (m′ .links) (m′ .pool) (m′ .input) o)) (sym (g .1)) (took-after a s₁ m₁ here (k .live) b s′ (m′ .input) (g .0))
-  goes-after stop.Bad ended i e g = closed-after stop.Bad e (λ next n. tt) g
-  goes-after stop.Spent ended i e g = closed-after stop.Spent e (λ next n. tt) g
-  goes-after stop.Refused ended i e g = closed-after stop.Refused e (λ next n. tt) g
+  goes-after stop.Bad ended i e g = closed-after stop.Bad e (λ next n. tt) (g .0)
+  goes-after stop.Spent ended i e g = closed-after stop.Spent e (λ next n. tt) (g .0)
+  goes-after stop.Refused ended i e g = closed-after stop.Refused e (λ next n. tt) (g .0)
 
   turn-after : After (then a b) s′ m′
   turn-after = goes-after (k .report .stop) (s .standing .ended) refl refl (k .goes)
@@ -269,10 +298,12 @@ then-nothing a = rw (append-nil (a .brought), append-nil (a .put))
 then-then : (a b c : Account) → then (then a b) c ≡ then a (then b c)
 then-then a b c = rw (append-assoc (a .brought) (b .brought) (c .brought), append-assoc (a .put) (b .put) (c .put))
 
+one-more : (a₀ a b : Account) (s s′ : State) (m m′ : Lent) → After (then a₀ a) s m → Played s m b s′ m′ → After (then a₀ (then a b)) s′ m′
+one-more a₀ a b s s′ m m′ z q = subst (λ (c : Account). After c s′ m′) (then-then a₀ a b) (turn-after (then a₀ a) s m (z .stands (q .live)) b s′ m′ q)
+
 plays-after : (a₀ : Account) (s : State) (m : Lent) → After a₀ s m → {a : Account} {s′ : State} {m′ : Lent} → Plays s m a s′ m′ → After (then a₀ a) s′ m′
-plays-after a₀ s m z none = rw (then-nothing a₀) z
-plays-after a₀ s m z (more {a} {b} {s₁} {s₂} {m₁} {m₂} p q) =
-    rw (← then-then a₀ a b) (turn-after (then a₀ a) s₁ m₁ (plays-after a₀ s m z p .stands (q .live)) b s₂ m₂ q)
+plays-after a₀ s m z none = subst (λ (c : Account). After c s m) (sym (then-nothing a₀)) z
+plays-after a₀ s m z (more {a} {b} {s₁} {s₂} {m₁} {m₂} p q) = one-more a₀ a b s₁ s₂ m₁ m₂ (plays-after a₀ s m z p) q
 
 -- no event is reached, whatever comes after where the input has not ended
 none-after : (s next : List ℕ) (ended : Bool) (why : Stop) → (ended ≡ false → 100 ≤ length s) → (ended ≡ true → next ≡ []) → begunAs (settingsAt s) ≡ begun.Stop why → output (s ++ next) ≡ lastLine why 0 0 0
@@ -283,27 +314,35 @@ none-after s next false why h n e = go (settings-more s next)
     go (inl q) = absurd (settings-there s (h refl) q)
     go (inr q) = none-reached (s ++ next) why (ap begunAs q ∙ e)
 
--- Of the bytes that its reads brought, in order, what the program put to be written is the start of what is printed for them, and all of it
--- where every read and write did its work: it ends where the input has ended, or where nothing that may come would be printed.
-pub performed : {b : Account} {r : Work} (p : Performed b r)
-    → Prefix (b .put) (output (b .brought)) × (r ≡ Whole → (next : List ℕ) → (isEnded p ≡ true → next ≡ []) → output (b .brought ++ next) ≡ b .put)
-performed (unread have input) = ((_, refl), λ e next n. never (sym (ap worked e)))
-performed (unreached {b} have ended input why r n h e o) =
+-- Of the bytes that its reads brought, in order, what the program put to be written is the start of what is printed for them. Where every
+-- read and write did its work it is all of it, for the program ends where the input has ended, or where nothing that may come would be
+-- printed; and the room for lines holds the last line.
+pub performed : {m : Lent} {b : Account} {r : Work} {m′ : Lent} (p : Performed m b r m′)
+    → Prefix (b .put) (output (b .brought))
+    × (r ≡ Whole → (next : List ℕ) → (isEnded p ≡ true → next ≡ []) → output (b .brought ++ next) ≡ b .put)
+    × (r ≡ Whole → Lasts (output (b .brought)) (m′ .room))
+performed (unread have input) = ((_, refl), λ e next n. never (sym (ap worked e)), λ e. never (sym (ap worked e)))
+performed (unreached {b} {room′} have ended input why r n h e o) =
     let p : b ≡ writes (lastLine why 0 0 0) = o .flushed .puts ∙ ap writes (o .text) in
     let l : length (take have input) ≡ have = length-take-le have input h in
+    let printed = none-reached (take have input) why e in
     rw (p, append-nil (take have input)) (
-      ([], none-reached (take have input) why e ∙ sym (append-nil (lastLine why 0 0 0))),
+      ([], printed ∙ sym (append-nil (lastLine why 0 0 0))),
       λ q next f. none-after (take have input) next ended why (λ i. rw l (n i)) f e,
+      λ q. record { front = []; why = why; left = 0; applied = 0; growth = 0; is = printed; there = stands-there (o .end) room′ _ (o .text) },
     )
-performed (played have ended input room t z next r n h e q) = (last .start, λ w later f. last .all (q .ended .done) (sym (q .ended .work) ∙ w) later f)
+performed {m} (played {m′} have ended input t z next r n h e q) =
+    let done = q .ended .done in
+    let whole : r ≡ Whole → q .ended .state .standing .work ≡ Whole = λ w. sym (q .ended .work) ∙ w in
+    (last .start, λ w later f. last .all done (whole w) later f, λ w. last .line done (whole w))
   where
     first : State
     first = record { connection = q .connection; applied = 0; standing = record { at = next; have = have; put = 0; ended = ended; done = false; work = Whole } }
 
-    m : Lent
-    m = lent (q .table) (q .links) (q .pool) input room
+    made : Lent
+    made = lent (q .table) (q .links) (q .pool) input (m .room)
 
-    here : Stands (reads (take have input)) first m
+    here : Stands (reads (take have input)) first made
     here =
         let f = events-reached (take have input) t z next e in
         record {
@@ -314,8 +353,8 @@ performed (played have ended input room t z next r n h e q) = (last .start, λ w
           owes = λ later. rw (q .new (f .config) (f .fine)) (f .prints later);
         }
 
-    last : Told (then (reads (take have input)) (q .ended .account)) (q .ended .state)
+    last : Told (then (reads (take have input)) (q .ended .account)) (q .ended .state) (m′ .room)
     last =
-        plays-after (reads (take have input)) first m
-        (record { stands = λ d. here; told = record { start = starts (reads (take have input)) first m here; all = λ d w later n. never (sym d) } })
+        plays-after (reads (take have input)) first made
+        (record { stands = λ d. here; told = record { start = starts (reads (take have input)) first made here; all = λ d w later n. never (sym d); line = λ d w. never (sym d) } })
         (q .ended .plays) .told

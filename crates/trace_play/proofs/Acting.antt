@@ -94,12 +94,6 @@ module _ (s : State) (why : Stop) (input room : List ℕ) (sound : Sound (length
       nears : (written : Bool) → length room - s .standing .put < longestLine → Nears s (moved s (afterWrite (s .standing) written))
       nears written l = flushed s written (length room) (roomy .1) l live
 
-  pub read-fits : nextTask why (s .standing .ended) ≡ task.Read → length (kept input (s .standing .at) (s .standing .have)) < length input
-  read-fits e =
-      let w = short-only why (s .standing .ended) (rw e tt) in
-      let l : s .standing .have < s .standing .at + longest = rw (w .0) at lacks in
-      omega (arith, kept-length input (s .standing .at) (s .standing .have) (sound .0) (sound .1), roomy .0)
-
   pub read-acts : nextTask why (s .standing .ended) ≡ task.Read → {b : Account} {x : Standing} {input′ : List ℕ} → Fed (s .standing) input b x input′ → Acts (moved s x) input′ room
   read-acts e {b} {x} {input′} f =
       let w = short-only why (s .standing .ended) (rw e tt) in
@@ -114,20 +108,20 @@ module _ (s : State) (why : Stop) (input room : List ℕ) (sound : Sound (length
       places End i q = rw q (omega arith, omega (arith, kept-length input (s .standing .at) (s .standing .have) (sound .0) (sound .1)), sound .2)
       places Failed i q = rw q (omega arith, omega (arith, kept-length input (s .standing .at) (s .standing .have) (sound .0) (sound .1)), sound .2)
 
-  pub end-acts : nextTask why (s .standing .ended) ≡ task.End → {b : Account} {s′ : State} (input′ room′ : List ℕ) → Closed why s room b s′ → Acts s′ input′ room′
-  end-acts e {b} {s′} input′ room′ c = (places c, (λ d. over c d, (b, rw e c)))
+  pub end-acts : nextTask why (s .standing .ended) ≡ task.End → {b : Account} {s′ : State} {room′ : List ℕ} → Closed why s room b s′ room′ → Acts s′ input room′
+  end-acts e {b} {s′} {room′} c = (places c, (λ d. over c d, (b, rw e (c, refl))))
     where
       written : (x y : Standing) (w : Bool) → y ≡ afterWrite x w → (y .at ≡ x .at) × (y .have ≡ x .have) × (y .put ≡ 0)
       written x y true q = rw q (refl, refl, refl)
       written x y false q = rw q (refl, refl, refl)
 
-      places : {b : Account} {s′ : State} → Closed why s room b s′ → Sound (length input) (length room) (s′ .standing)
+      places : {b : Account} {s′ : State} {room′ : List ℕ} → Closed why s room b s′ room′ → Sound (length input) (length room) (s′ .standing)
       places (broken {a} {x} f d) = let p = written (s .standing) x (f .written) (f .is) in (omega (arith, sound .0, p .0, p .1), omega (arith, sound .1, p .1), omega (arith, p .2))
-      places (last {a} {b} {x} {y} end room f d t g) =
+      places (last {a} {b} {x} {y} end f d t g) =
           let p = written (s .standing) x (f .written) (f .is) in
           let q = written _ y (g .written) (g .is) in
           (omega (arith, sound .0, p .0, p .1, q .0, q .1), omega (arith, sound .1, p .1, q .1), omega (arith, q .2))
 
-      over : {b : Account} {s′ : State} → Closed why s room b s′ → s′ .standing .done ≡ false → {A : Type 0} → A
+      over : {b : Account} {s′ : State} {room′ : List ℕ} → Closed why s room b s′ room′ → s′ .standing .done ≡ false → {A : Type 0} → A
       over (broken {a} {x} f d) h = never (sym d ∙ h)
-      over (last {a} {b} {x} {y} end room f d t g) h = never h
+      over (last {a} {b} {x} {y} end f d t g) h = never h

@@ -4,3 +4,4 @@ pub mod Acting
 pub mod Turning
 pub mod Accounts
 pub mod Starting
+pub mod Tried

@@ -1,13 +1,13 @@
 -- Settings that a trace may have ask for no more than the program has, and make a connection. Assumes nothing.
-use mathlib.Core.Path.{_≡_, refl, sym, subst, _∙_}
+use mathlib.Core.Path.{_≡_, refl, sym, ap, subst, _∙_}
 use mathlib.Core.Bool.{true}
-use mathlib.Core.List.{List}
+use mathlib.Core.List.{List, _++_}
 use Prim.Native.Nat.{ℕ, _*_, _≤_}
 use native.Mathlib.Omega.{arith}
-use lib.Dec.{leb}
+use lib.Dec.{leb, eqb}
 use lib.ListN.{length, take}
-use lib.Seq.{length-take-le}
-use borrow.Author.Tests.{leb-true, eq-eqb}
+use lib.Seq.{length-take-le, take-append-seam}
+use borrow.Author.Tests.{leb-true, eqb-true, eq-eqb}
 use Rattle.rules.proofs.Lists.{both}
 use Rattle.rules.specs.Settings.{checked}
 use Rattle.rules.specs.State.{initial}
@@ -33,7 +33,10 @@ use Rattle.filter.specs.Parts.{holding}
 use Rattle.filter.specs.declared.Standing.{Standing}
 use Rattle.filter.specs.declared.Work.{Work}
 use Rattle.filter.specs.declared.Work.the-variants.{Unread}
-use Rattle.trace_play.specs.Plays.{Fitting, Started, OnlyLine, Lines, Enough, Performed, Performs, unread, unreached, played}
+use Rattle.trace_events.specs.Calls.{longest}
+use Rattle.trace_lines.specs.Writing.{longestLine}
+use Rattle.trace_play.specs.Places.{Roomy, sizedFor}
+use Rattle.trace_play.specs.Plays.{Lent, lent, Fitting, Started, OnlyLine, Lines, Enough, Performed, Performs, unread, unreached, played}
 
 -- ---- the connection
 
@@ -86,19 +89,40 @@ module _ {s : List ℕ} {t : Settings} {z : Sizes} {next : ℕ} (f : Prepared s 
   }
 
 -- the settings are not read
-pub unread-performs : (have : ℕ) (input : List ℕ) (r : Work) → r ≡ Unread → Performs r
-unread-performs have input r e = (_, subst (Performed (reads (take have input))) (sym e) (unread have input))
+pub unread-performs : (m : Lent) (have : ℕ) (input : List ℕ) (r : Work) → r ≡ Unread → Performs m r (lent (m .table) (m .links) (m .pool) input (m .room))
+unread-performs m have input r e = (_, subst (λ (w : Work). Performed m (reads (take have input)) w (lent (m .table) (m .links) (m .pool) input (m .room))) (sym e) (unread have input))
 
 -- no event is reached
-pub line-performs : (x : Standing) (input : List ℕ) (why : Stop) (r : Work) → x ≡ holding (x .have) (x .ended) → Enough (x .have) (x .ended) → x .have ≤ length input → begunAs (settingsAt (take (x .have) input)) ≡ begun.Stop why → Lines why x r → Performs r
-line-performs x input why r e n h g q = (_, unreached (x .have) (x .ended) input why r n h g (subst (λ (y : Standing). OnlyLine why y (q .0) r) e (q .1)))
+pub line-performs : (m : Lent) (x : Standing) (input : List ℕ) (why : Stop) (r : Work) {room′ : List ℕ} → x ≡ holding (x .have) (x .ended) → Enough (x .have) (x .ended) → x .have ≤ length input → begunAs (settingsAt (take (x .have) input)) ≡ begun.Stop why
+    → Lines why x r room′ → Performs m r (lent (m .table) (m .links) (m .pool) input room′)
+line-performs m x input why r {room′} e n h g q = (_, unreached (x .have) (x .ended) input why r n h g (subst (λ (y : Standing). OnlyLine why y (q .0) r room′) e (q .1)))
+
+-- what was lent of a list stands before the rest of it
+front-is : (front rest : List ℕ) (n : ℕ) → length front ≡ n → take n (front ++ rest) ≡ front
+front-is front rest n e = ap (λ (k : ℕ). take k (front ++ rest)) (sym e) ∙ take-append-seam front rest
 
 -- the events are played from the place after the settings on
-pub plays : (x : Standing) (input room : List ℕ) (t : Settings) (z : Sizes) (next : ℕ) (r : Work) → x ≡ holding (x .have) (x .ended) → Enough (x .have) (x .ended) → x .have ≤ length input
+pub plays : (m : Lent) (x : Standing) (input : List ℕ) (t : Settings) (z : Sizes) (next : ℕ) (r : Work) {t′ l′ p′ input′ room′ : List ℕ} (more-t more-l more-p : List ℕ) → length t′ ≡ z .table → length l′ ≡ z .links → length p′ ≡ z .pool
+    → x ≡ holding (x .have) (x .ended) → Enough (x .have) (x .ended) → x .have ≤ length input
     → begunAs (settingsAt (take (x .have) input)) ≡ begun.Fine t z next
-    → Started t (record { at = next; have = x .have; put = x .put; ended = x .ended; done = x .done; work = x .work }) input room r → Performs r
-plays x input room t z next r e n h g q = (
-  _,
-  played (x .have) (x .ended) input room t z next r n h g
-      (subst (λ (y : Standing). Started t (record { at = next; have = y .have; put = y .put; ended = y .ended; done = y .done; work = y .work }) input room r) e q),
-)
+    → Started t (record { at = next; have = x .have; put = x .put; ended = x .ended; done = x .done; work = x .work }) input (m .room) r (lent t′ l′ p′ input′ room′)
+    → Performs m r (lent (t′ ++ more-t) (l′ ++ more-l) (p′ ++ more-p) input′ room′)
+plays m x input t z next r {t′} {l′} {p′} {input′} {room′} more-t more-l more-p a b c e n h g q =
+    let w = subst (λ (y : Standing). Started t (record { at = next; have = y .have; put = y .put; ended = y .ended; done = y .done; work = y .work }) input (m .room) r (lent t′ l′ p′ input′ room′)) e q in (
+      _,
+      played {m′ = lent (t′ ++ more-t) (l′ ++ more-l) (p′ ++ more-p) input′ room′} (x .have) (x .ended) input t z next r n h g (rw (front-is t′ more-t (z .table) a, front-is l′ more-l (z .links) b, front-is p′ more-p (z .pool) c) w),
+    )
+
+-- ---- what is lent
+
+-- what is judged to be enough
+pub enough : (t l p sent bytes input room : ℕ) → sizedFor t l p sent bytes input room ≡ true
+    → (2700 ≤ t) × (616 ≤ l) × (630784 ≤ p) × (sent ≡ 12) × (bytes ≡ 16384) × Roomy input room
+enough t l p sent bytes input room e =
+    let a = both (leb 2700 t) _ e in
+    let b = both (leb 616 l) _ (a .1) in
+    let c = both (leb 630784 p) _ (b .1) in
+    let d = both (leb longest input) _ (c .1) in
+    let f = both (leb longestLine room) _ (d .1) in
+    let g = both (eqb sent 12) _ (f .1) in
+    (leb-true _ _ (a .0), leb-true _ _ (b .0), leb-true _ _ (c .0), eqb-true _ _ (g .0), eqb-true _ _ (g .1), (leb-true _ _ (d .0), leb-true _ _ (f .0)))

@@ -40,14 +40,14 @@ module _ (s : State) (t l p sent bytes input room : List ℕ) (sound : Sound (le
   after-lacks = lacks-as (report .stop) (length (take (s .standing .have) input)) (report .place .at) (length room) (report .place .put) read-size (sym size) (k .lacks)
 
   -- what follows a run leaves the connection
-  closed-same : {b : Account} {s′ : State} → Closed (report .stop) s₁ written b s′ → s′ .connection ≡ report .connection
+  closed-same : {b : Account} {s′ : State} {room′ : List ℕ} → Closed (report .stop) s₁ written b s′ room′ → s′ .connection ≡ report .connection
   closed-same (broken f d) = refl
-  closed-same (last end room f d g h) = refl
+  closed-same (last end f d g h) = refl
 
   same : (a : Task) (b : Account) (s′ : State) (input′ room′ : List ℕ) → GoesOn a (report .stop) s₁ input written b s′ input′ room′ → s′ .connection ≡ report .connection
   same task.Write b s′ input′ room′ g = ap (λ (y : State). y .connection) (g .0 .is)
   same task.Read b s′ input′ room′ g = ap (λ (y : State). y .connection) (g .0 .is)
-  same task.End b s′ input′ room′ g = closed-same g
+  same task.End b s′ input′ room′ g = closed-same (g .0)
 
   pub turned : (s′ : State) (input′ room′ : List ℕ) → Sound (length input) (length written) (s′ .standing) → Nears s₁ s′ → Goes (report .stop) s₁ input written s′ input′ room′
       → Sound (length input) (length room) (s′ .standing) × (Nears s s′ × (Valid (s′ .connection) t′ l′ p′ × Turns s (lent t l p input room) s′ (lent t′ l′ p′ input′ room′)))

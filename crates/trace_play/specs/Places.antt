@@ -2,6 +2,7 @@
 use mathlib.Core.Path.{_≡_}
 use mathlib.Core.Bool.{Bool, true, false, cond}
 use Prim.Native.Nat.{ℕ, zero, suc, _+_, _-_, _*_, _≤_, _<_}
+use lib.Dec.{leb, eqb}
 use Rattle.filter.specs.declared.Standing.{Standing}
 use Rattle.trace_events.specs.Calls.{longest}
 use Rattle.trace_lines.specs.Writing.{longestLine}
@@ -59,6 +60,14 @@ Sound input room x = (x .at ≤ x .have) × (x .have ≤ input) × (x .put ≤ r
 -- the buffers can hold the longest event and the longest line
 abbrev pub Roomy : ℕ → ℕ → Type 0
 Roomy input room = (longest ≤ input) × (longestLine ≤ room)
+
+-- What is lent is enough for 300 slots and a pool of 16,384 bytes, can hold the longest event and the longest line, and is a header and the
+-- longest read.
+abbrev pub sizedFor : ℕ → ℕ → ℕ → ℕ → ℕ → ℕ → ℕ → Bool
+sizedFor table links pool sent bytes input room =
+    cond (leb 2700 table)
+    (cond (leb 616 links)
+    (cond (leb 630784 pool) (cond (leb longest input) (cond (leb longestLine room) (cond (eqb sent 12) (eqb bytes 16384) false) false) false) false) false) false
 
 -- 1 where there is any
 abbrev pub some : ℕ → ℕ

@@ -23,7 +23,7 @@ use Rattle.filter.specs.Parts.{holding, Flushed, Fed}
 use Rattle.filter.specs.Account.{Account, nothing, reads, then}
 use Rattle.filter.specs.declared.Standing.{Standing}
 use Rattle.filter.specs.declared.Work.{Work}
-use Rattle.filter.specs.declared.Work.the-variants.{Whole, Unread}
+use Rattle.filter.specs.declared.Work.the-variants.{Whole, Unread, Unlent}
 use Rattle.trace_play.specs.Places.{nextTask, placeOf, afterRun, moved}
 use Rattle.trace_play.specs.declared.State.{State}
 use Rattle.trace_play.specs.declared.Task.{Task}
@@ -49,21 +49,21 @@ putting x end = record { at = x .at; have = x .have; put = end; ended = x .ended
 abbrev pub over : Standing → Standing
 over x = record { at = x .at; have = x .have; put = x .put; ended = x .ended; done = true; work = x .work }
 
--- the lines that there were are written, and where that did its work, the last line
-pub data Closed (why : Stop) (s : State) (room : List ℕ) : Account → State → Type 0 where
-  broken : {a : Account} {x : Standing} → Flushed (s .standing) room a x → x .done ≡ true → Closed why s room a (moved s x)
-  last : {a b : Account} {x y : Standing} (end : ℕ) (room′ : List ℕ) → Flushed (s .standing) room a x → x .done ≡ false
+-- the lines that there were are written, and where that did its work, the last line, which the room then holds
+pub data Closed (why : Stop) (s : State) (room : List ℕ) : Account → State → List ℕ → Type 0 where
+  broken : {a : Account} {x : Standing} → Flushed (s .standing) room a x → x .done ≡ true → Closed why s room a (moved s x) room
+  last : {a b : Account} {x y : Standing} {room′ : List ℕ} (end : ℕ) → Flushed (s .standing) room a x → x .done ≡ false
       → take end room′ ≡ lastLine why (s .standing .have - s .standing .at) (s .applied) (s .connection .growth)
-      → Flushed (putting x end) room′ b y → Closed why s room (then a b) (moved s (over y))
+      → Flushed (putting x end) room′ b y → Closed why s room (then a b) (moved s (over y)) room′
 
-abbrev pub Closes : Stop → State → List ℕ → State → Type 0
-Closes why s room s′ = (b : Account) × Closed why s room b s′
+abbrev pub Closes : Stop → State → List ℕ → State → List ℕ → Type 0
+Closes why s room s′ room′ = (b : Account) × Closed why s room b s′ room′
 
 -- what follows a run that stopped so
 abbrev pub GoesOn : Task → Stop → State → List ℕ → List ℕ → Account → State → List ℕ → List ℕ → Type 0
 GoesOn task.Write why s input room b s′ input′ room′ = Wrote s room b s′ × (input′ ≡ input) × (room′ ≡ room)
 GoesOn task.Read why s input room b s′ input′ room′ = Took s input b s′ input′ × (room′ ≡ room)
-GoesOn task.End why s input room b s′ input′ room′ = Closed why s room b s′
+GoesOn task.End why s input room b s′ input′ room′ = Closed why s room b s′ room′ × (input′ ≡ input)
 
 abbrev pub Goes : Stop → State → List ℕ → List ℕ → State → List ℕ → List ℕ → Type 0
 Goes why s input room s′ input′ room′ = (b : Account) × GoesOn (nextTask why (s .standing .ended)) why s input room b s′ input′ room′
@@ -78,6 +78,10 @@ pub record Lent : Type 0 where
 
 abbrev pub lent : List ℕ → List ℕ → List ℕ → List ℕ → List ℕ → Lent
 lent t l p input room = record { table = t; links = l; pool = p; input = input; room = room }
+
+-- as much of table, links and pool as is asked for
+abbrev pub fronts : Sizes → Lent → Lent
+fronts z m = lent (take (z .table) (m .table)) (take (z .links) (m .links)) (take (z .pool) (m .pool)) (m .input) (m .room)
 
 -- A turn is a run over what was read and not yet taken, and what follows it.
 pub record Played (s : State) (m : Lent) (b : Account) (s′ : State) (m′ : Lent) : Type 0 where
@@ -97,12 +101,11 @@ pub data Plays (s : State) (m : Lent) : Account → State → Lent → Type 0 wh
   none : Plays s m nothing s m
   more : {a b : Account} {s₁ s₂ : State} {m₁ m₂ : Lent} → Plays s m a s₁ m₁ → Played s₁ m₁ b s₂ m₂ → Plays s m (then a b) s₂ m₂
 
--- until all is done, with the work that reads and writes did
-pub record Ended (s : State) (m : Lent) (r : Work) : Type 0 where
+-- until all is done, with the work that reads and writes did and what is then in what is lent
+pub record Ended (s : State) (m : Lent) (r : Work) (m′ : Lent) : Type 0 where
   pub account : Account
   pub state : State
-  pub lent : Lent
-  pub plays : Plays s m account state lent
+  pub plays : Plays s m account state m′
   pub done : state .standing .done ≡ true
   pub work : r ≡ state .standing .work
 
@@ -113,46 +116,51 @@ pub record Fitting (t : Settings) (table links pool : ℕ) : Type 0 where
   pub fits : sized config table links pool ≡ true
 
 -- a new connection, of which no event is applied
-pub record Started (t : Settings) (x : Standing) (input room : List ℕ) (r : Work) : Type 0 where
+pub record Started (t : Settings) (x : Standing) (input room : List ℕ) (r : Work) (m′ : Lent) : Type 0 where
   pub connection : Connection
   pub table : List ℕ
   pub links : List ℕ
   pub pool : List ℕ
   pub valid : Valid connection table links pool
   pub new : (k : Config) → checked t ≡ settings.Fine k → absOf connection table links pool ≡ initial k
-  pub ended : Ended (record { connection = connection; applied = 0; standing = x }) (lent table links pool input room) r
+  pub ended : Ended (record { connection = connection; applied = 0; standing = x }) (lent table links pool input room) r m′
 
--- the one line of a trace without an event is written
-pub record OnlyLine (why : Stop) (x : Standing) (b : Account) (r : Work) : Type 0 where
+-- the one line of a trace without an event is written, and the room holds it
+pub record OnlyLine (why : Stop) (x : Standing) (b : Account) (r : Work) (room′ : List ℕ) : Type 0 where
   pub to : Standing
   pub end : ℕ
-  pub room : List ℕ
-  pub text : take end room ≡ lastLine why 0 0 0
-  pub flushed : Flushed (putting x end) room b to
+  pub text : take end room′ ≡ lastLine why 0 0 0
+  pub flushed : Flushed (putting x end) room′ b to
   pub work : r ≡ to .work
 
-abbrev pub Lines : Stop → Standing → Work → Type 0
-Lines why x r = (b : Account) × OnlyLine why x b r
+abbrev pub Lines : Stop → Standing → Work → List ℕ → Type 0
+Lines why x r room′ = (b : Account) × OnlyLine why x b r room′
 
 -- the first hundred bytes, which decide the settings, are there, or the input has ended
 abbrev pub Enough : ℕ → Bool → Type 0
 Enough have ended = ended ≡ false → 100 ≤ have
 
--- What the program does with a standard input, and the work that reads and writes did: the settings are not read, or no event is reached
--- and the last line is put, or the events are played from the place after the settings on.
-pub data Performed : Account → Work → Type 0 where
-  unread : (have : ℕ) (input : List ℕ) → Performed (reads (take have input)) Unread
-  unreached : {b : Account} (have : ℕ) (ended : Bool) (input : List ℕ) (why : Stop) (r : Work) → Enough have ended → have ≤ length input → begunAs (settingsAt (take have input)) ≡ begun.Stop why → OnlyLine why (holding have ended) b r
-      → Performed (then (reads (take have input)) b) r
-  played : (have : ℕ) (ended : Bool) (input room : List ℕ) (t : Settings) (z : Sizes) (next : ℕ) (r : Work) → Enough have ended → have ≤ length input → begunAs (settingsAt (take have input)) ≡ begun.Fine t z next
-      → (e : Started t (record { at = next; have = have; put = 0; ended = ended; done = false; work = Whole }) input room r)
-      → Performed (then (reads (take have input)) (e .ended .account)) r
+-- What the program does with a standard input, from what is lent to what is in it after, and the work that reads and writes did: the settings
+-- are not read, or no event is reached and the last line is put, or the events are played from the place after the settings on, in as much of
+-- table, links and pool as the settings ask for.
+pub data Performed (m : Lent) : Account → Work → Lent → Type 0 where
+  unread : (have : ℕ) (input : List ℕ) → Performed m (reads (take have input)) Unread (lent (m .table) (m .links) (m .pool) input (m .room))
+  unreached : {b : Account} {room′ : List ℕ} (have : ℕ) (ended : Bool) (input : List ℕ) (why : Stop) (r : Work) → Enough have ended → have ≤ length input → begunAs (settingsAt (take have input)) ≡ begun.Stop why → OnlyLine why (holding have ended) b r room′
+      → Performed m (then (reads (take have input)) b) r (lent (m .table) (m .links) (m .pool) input room′)
+  played : {m′ : Lent} (have : ℕ) (ended : Bool) (input : List ℕ) (t : Settings) (z : Sizes) (next : ℕ) (r : Work) → Enough have ended → have ≤ length input → begunAs (settingsAt (take have input)) ≡ begun.Fine t z next
+      → (e : Started t (record { at = next; have = have; put = 0; ended = ended; done = false; work = Whole }) input (m .room) r (fronts z m′))
+      → Performed m (then (reads (take have input)) (e .ended .account)) r m′
 
 -- whether a read said that the input has ended
-abbrev pub isEnded : {b : Account} {r : Work} → Performed b r → Bool
+abbrev pub isEnded : {m : Lent} {b : Account} {r : Work} {m′ : Lent} → Performed m b r m′ → Bool
 isEnded (unread have input) = false
 isEnded (unreached have ended input why r n h e o) = ended
-isEnded (played have ended input room t z next r n h e q) = q .ended .state .standing .ended
+isEnded (played have ended input t z next r n h e q) = q .ended .state .standing .ended
 
-abbrev pub Performs : Work → Type 0
-Performs r = (b : Account) × Performed b r
+abbrev pub Performs : Lent → Work → Lent → Type 0
+Performs m r m′ = (b : Account) × Performed m b r m′
+
+-- where what is lent is of a wrong size, that is said, and nothing is done
+abbrev pub Replays : Bool → Lent → Work → Lent → Type 0
+Replays true m r m′ = Performs m r m′
+Replays false m r m′ = (r ≡ Unlent) × (m′ ≡ m)

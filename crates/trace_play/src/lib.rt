@@ -5,22 +5,24 @@ ghost use Prim.Native.Nat.{_≤_};
 ghost use lib.ListN.{length, take};
 ghost use Rattle.connection.specs.Abstract.{Valid};
 ghost use Rattle.trace.specs.Output.{lastLine};
-ghost use Rattle.trace.specs.Turns.{Lacks};
-ghost use Rattle.trace_play.specs.Places.{endOf, nextTask, placeOf, afterRun, Sound, Roomy, Nears};
-ghost use Rattle.trace_play.specs.Plays.{lent, Goes, Closes, Lines, Turns, Ended, Fitting, Started, Performs};
+ghost use Rattle.trace.specs.Turns.{Lacks, Untouched};
+ghost use Rattle.trace_play.specs.Places.{endOf, nextTask, placeOf, afterRun, Sound, Roomy, Nears, sizedFor};
+ghost use Rattle.trace_play.specs.Plays.{lent, Goes, Closes, Lines, Turns, Ended, Fitting, Started, Performs, Replays};
 use connection::Connection;
 use connection_open::Created;
 use filter::Standing;
 use filter::Work;
+use frame::header::HEADER_SIZE;
 use rules::Settings;
 use trace::Begun;
 use trace::Place;
 use trace::Report;
 use trace::Stop;
+use trace_lines::LONGEST_LINE;
 use trace_lines::Put;
 
 // The connection, the events applied, and where the program stands in its input and its output.
-pub struct State {
+struct State {
     pub connection: Connection,
     pub applied: u64,
     pub standing: Standing,
@@ -37,6 +39,17 @@ const ALLOWANCE: u64 = 1000000;
 
 // As many bytes as settings can take.
 const SETTINGS: usize = 100;
+
+// What 300 slots and a pool of 16,384 bytes take.
+const TABLE: usize = 2700;
+
+const LINKS: usize = 616;
+
+const POOL: usize = 630784;
+
+const LONGEST_READ: usize = 16384;
+
+const LONGEST_EVENT: usize = 16424;
 
 // What follows a run that stopped so: lines are written where there was no room for one more, and more is read where the input goes on.
 fn next_task(stop: Stop, ended: bool) -> Task
@@ -79,19 +92,19 @@ fn last_line(stop: Stop, left: usize, applied: u64, growth: u64, out: &mut [u8])
 // Writes the lines that there are, and the last line.
 fn finish(state: State, stop: Stop, out: &mut [u8]) -> State
     requires { ⌜ (state .standing .at ≤ state .standing .have) × (state .standing .put ≤ length (now out)) × (100 ≤ length (now out)) × (state .standing .done ≡ false) ⌝ }
-    ensures { λ r. ⌜ Closes stop state (now (out .entry)) r ⌝ }
+    ensures { λ r. ⌜ Closes stop state (now (out .entry)) r (now (out .exit)) ⌝ }
 {
     let standing = state.standing;
     let flushed = filter::flush(standing, &out[..]);
-    let connection = state.connection;
-    let left = standing.have - standing.at;
-    let put = last_line(stop, left, state.applied, connection.growth, out);
     if flushed.done {
         return State {
             standing: flushed,
             ..state
         };
     }
+    let connection = state.connection;
+    let left = standing.have - standing.at;
+    let put = last_line(stop, left, state.applied, connection.growth, out);
     let line = Standing { put, ..flushed };
     let last = filter::flush(line, &out[..]);
     let closed = Standing { done: true, ..last };
@@ -206,7 +219,7 @@ fn turn(
 
 // Turn by turn, until all is done, and returns the work that reads and writes did. Each turn but the last leaves less to do, so this ends
 // even where the input does not.
-pub fn play(
+fn play(
     start: State,
     table: &mut [u64],
     links: &mut [u32],
@@ -219,7 +232,7 @@ pub fn play(
     requires { ⌜ Sound (length (now src)) (length (now out)) (start .standing) ⌝ }
     requires { ⌜ Roomy (length (now src)) (length (now out)) ⌝ }
     requires { ⌜ Valid (start .connection) (now table) (now links) (now pool) × (length (now sent) ≡ 12) × (length (now bytes) ≡ 16384) ⌝ }
-    ensures { λ r. ⌜ Ended start (lent (now (table .entry)) (now (links .entry)) (now (pool .entry)) (now (src .entry)) (now (out .entry))) r ⌝ }
+    ensures { λ r. ⌜ Ended start (lent (now (table .entry)) (now (links .entry)) (now (pool .entry)) (now (src .entry)) (now (out .entry))) r (lent (now (table .exit)) (now (links .exit)) (now (pool .exit)) (now (src .exit)) (now (out .exit))) ⌝ }
 {
     let mut state = start;
     let mut done = state.standing.done;
@@ -232,9 +245,9 @@ pub fn play(
 }
 
 // Writes the one line of a trace without an event.
-pub fn only_line(stop: Stop, standing: Standing, out: &mut [u8]) -> Work
+fn only_line(stop: Stop, standing: Standing, out: &mut [u8]) -> Work
     requires { ⌜ 100 ≤ length (now out) ⌝ }
-    ensures { λ r. ⌜ Lines stop standing r ⌝ }
+    ensures { λ r. ⌜ Lines stop standing r (now (out .exit)) ⌝ }
 {
     let put = last_line(stop, 0, 0, 0, out);
     let line = Standing { put, ..standing };
@@ -257,7 +270,7 @@ fn start(
     requires { ⌜ Sound (length (now src)) (length (now out)) standing ⌝ }
     requires { ⌜ Roomy (length (now src)) (length (now out)) ⌝ }
     requires { ⌜ Fitting settings (length (now table)) (length (now links)) (length (now pool)) × (length (now sent) ≡ 12) × (length (now bytes) ≡ 16384) ⌝ }
-    ensures { λ r. ⌜ Started settings standing (now (src .entry)) (now (out .entry)) r ⌝ }
+    ensures { λ r. ⌜ Started settings standing (now (src .entry)) (now (out .entry)) r (lent (now (table .exit)) (now (links .exit)) (now (pool .exit)) (now (src .exit)) (now (out .exit))) ⌝ }
 {
     let created = connection_open::new(settings, table, links, pool);
     match created {
@@ -274,9 +287,8 @@ fn start(
     }
 }
 
-// Plays standard input in lent memory, which is enough for 300 slots and a pool of 16,384 bytes. Returns the work that reads and
-// writes did.
-pub fn replay(
+// Plays standard input in memory that is enough. Returns the work that reads and writes did.
+fn perform(
     table: &mut [u64],
     links: &mut [u32],
     pool: &mut [u8],
@@ -286,7 +298,7 @@ pub fn replay(
     out: &mut [u8],
 ) -> Work
     requires { ⌜ (2700 ≤ length (now table)) × (616 ≤ length (now links)) × (630784 ≤ length (now pool)) × (length (now sent) ≡ 12) × (length (now bytes) ≡ 16384) × Roomy (length (now src)) (length (now out)) ⌝ }
-    ensures { λ r. ⌜ Performs r ⌝ }
+    ensures { λ r. ⌜ Performs (lent (now (table .entry)) (now (links .entry)) (now (pool .entry)) (now (src .entry)) (now (out .entry))) r (lent (now (table .exit)) (now (links .exit)) (now (pool .exit)) (now (src .exit)) (now (out .exit))) ⌝ }
 {
     let filled = filter::fill(src, SETTINGS);
     if filled.done {
@@ -314,4 +326,65 @@ pub fn replay(
         }
         Begun::Stop(stop) => only_line(stop, filled, out),
     }
+}
+
+// Whether what is lent is enough for 300 slots and a pool of 16,384 bytes and for the longest event and line, and is a header and the longest read.
+fn sized_for(
+    table: usize,
+    links: usize,
+    pool: usize,
+    sent: usize,
+    bytes: usize,
+    src: usize,
+    out: usize,
+) -> bool
+    ensures { λ r. ⌜ r ≡ sizedFor table links pool sent bytes src out ⌝ }
+{
+    if table < TABLE {
+        return false;
+    }
+    if links < LINKS {
+        return false;
+    }
+    if pool < POOL {
+        return false;
+    }
+    if src < LONGEST_EVENT {
+        return false;
+    }
+    if out < LONGEST_LINE {
+        return false;
+    }
+    if sent != HEADER_SIZE {
+        return false;
+    }
+    bytes == LONGEST_READ
+}
+
+// Plays standard input in lent memory, which is judged first. Returns the work that reads and writes did.
+pub fn replay(
+    table: &mut [u64],
+    links: &mut [u32],
+    pool: &mut [u8],
+    sent: &mut [u8],
+    bytes: &mut [u8],
+    src: &mut [u8],
+    out: &mut [u8],
+) -> Work
+    ensures { λ r. ⌜ Replays (sizedFor (length (now (table .entry))) (length (now (links .entry))) (length (now (pool .entry))) (length (now (sent .entry))) (length (now (bytes .entry))) (length (now (src .entry))) (length (now (out .entry)))) (lent (now (table .entry)) (now (links .entry)) (now (pool .entry)) (now (src .entry)) (now (out .entry))) r (lent (now (table .exit)) (now (links .exit)) (now (pool .exit)) (now (src .exit)) (now (out .exit))) ⌝ }
+    ensures { λ _. ⌜ Untouched (sizedFor (length (now (table .entry))) (length (now (links .entry))) (length (now (pool .entry))) (length (now (sent .entry))) (length (now (bytes .entry))) (length (now (src .entry))) (length (now (out .entry)))) (now (sent .entry)) (now (bytes .entry)) (now (sent .exit)) (now (bytes .exit)) ⌝ }
+{
+    let right = sized_for(
+        table.len(),
+        links.len(),
+        pool.len(),
+        sent.len(),
+        bytes.len(),
+        src.len(),
+        out.len(),
+    );
+    if !right {
+        return Work::Unlent;
+    }
+    perform(table, links, pool, sent, bytes, src, out)
 }

@@ -26,7 +26,7 @@ loop-holds c =
     rw (c .first .ensures) (refl, omega arith, refl)
 
 read-more-requires : tie.Need-read-more-requires Inv-loop μ-loop
-read-more-requires c κs = omega (arith, c .before .if1 .taken, c .before .before .before .loop .inv .2, c .before .before .before .before .before .before .pre)
+read-more-requires c κs = search needs
 
 after-read-requires : tie.Need-after-read-requires Inv-loop μ-loop
 after-read-requires c κs = search needs

@@ -1,4 +1,5 @@
 -- `filter::read_more` meets its contract: a read changes nothing before its place. Assumes nothing.
+use mathlib.Core.Path.{refl}
 use Prim.Native.Nat.{_+_}
 use native.Mathlib.Omega.{arith}
 use lib.ListN.{length}
@@ -44,11 +45,13 @@ same-length c = search needs
 
 returns : tie.Need-returns
 returns c =
-    let a = c .before .before .before .before .before .before .before .before .before .args in
-    let p = c .before .before .before .before .before .before .before .before .before .pre in (
+    let a = c .before .before .before .before .before .before .before .before .before .before .args in (
       answer-inside (a .have) (a .have + c .before .count .result) (length (a .src .now)) (omega arith) (omega arith) (toZ w64 (ofZ w64 (c .before .before .before .before .before .before .read .result))) _ (c .answered .ensures),
-      front-stays (a .have) (a .src .now) _ (omega (arith, p)),
+      front-stays (a .have) (a .src .now) _ (omega arith),
     )
+
+returns-2 : tie.Need-returns-2
+returns-2 c = (tt, refl)
 
 pub read-more-spec : {M : Type 1} → statement M
 read-more-spec =
@@ -65,4 +68,5 @@ read-more-spec =
     add-answered
     answered-requires
     same-length
-    returns)
+    returns
+    returns-2)

@@ -1,5 +1,4 @@
 -- `trace_play::finish` meets its contract: two writes, the second where the first did its work. Assumes nothing.
-use native.Mathlib.Omega.{arith}
 use Rattle.trace_play.specs.Plays.{broken, last}
 use borrow.Author.Needs.{needs}
 use Rattle.trace_play.proofs.finish.Statement.{statement}
@@ -8,19 +7,19 @@ use Rattle.trace_play.proofs.finish.Tie as tie
 flush-requires : tie.Need-flush-requires
 flush-requires c κs = search needs
 
-sub-left : tie.Need-sub-left
-sub-left c = search needs
-
-last-line-requires : tie.Need-last-line-requires
-last-line-requires c κs = search needs
-
 same-length : tie.Need-same-length
 same-length c = search needs
 
 returns : tie.Need-returns
 returns c =
-    let f = c .before .before .before .before .before .before .before .before .flush .ensures in
+    let f = c .before .before .flush .ensures in
     (f .0, broken (f .1) (c .before .if1 .taken))
+
+sub-left : tie.Need-sub-left
+sub-left c = search needs
+
+last-line-requires : tie.Need-last-line-requires
+last-line-requires c κs = search needs
 
 flush-requires-2 : tie.Need-flush-requires-2
 flush-requires-2 c κs = search needs
@@ -31,19 +30,19 @@ same-length-2 c = search needs
 returns-2 : tie.Need-returns-2
 returns-2 c =
     let f = c .before .before .before .before .before .before .before .before .before .before .flush .ensures in
-    let k = c .before .before .before .before .before .before .last-line in
+    let k = c .before .before .before .before .before .last-line in
     let g = c .before .flush2 .ensures in
-    (_, last (k .result) (k .last .1 .1 .1 .1 .0) (f .1) (c .before .before .before .if1 .left) (k .ensures .0) (g .1))
+    (_, last (k .result) (f .1) (c .before .before .before .before .before .before .before .before .before .if1 .left) (k .ensures .0) (g .1))
 
 pub finish-spec : {M : Type 1} → statement M
 finish-spec =
     tie.close
     (tie.spec
     flush-requires
-    sub-left
-    last-line-requires
     same-length
     returns
+    sub-left
+    last-line-requires
     flush-requires-2
     same-length-2
     returns-2)

@@ -1,6 +1,6 @@
 -- `trace_play::go_on` meets its contract: each task has what follows it. Assumes nothing.
 use mathlib.Core.Path.{sym, _∙_}
-use Rattle.trace_play.proofs.Acting.{write-acts, read-fits, read-acts, end-acts}
+use Rattle.trace_play.proofs.Acting.{write-acts, read-acts, end-acts}
 use borrow.Author.Needs.{needs}
 use Rattle.trace_play.proofs.go_on.Statement.{statement}
 use Rattle.trace_play.proofs.go_on.Tie as tie
@@ -18,10 +18,7 @@ enum-told-2 : tie.Need-enum-told-2
 enum-told-2 c = search needs
 
 feed-requires : tie.Need-feed-requires
-feed-requires c κs =
-    let a = c .before .before .before .before .before .before .before .args in
-    let p = c .before .before .before .before .before .before .before .pre in
-    read-fits (a .state) (a .stop) (a .src .now) (a .out .now) (p .0) (p .1 .0) (p .1 .1 .0) (p .1 .1 .1) (sym (c .before .before .before .next-task .ensures) ∙ c .before .enum-told2 .given .1)
+feed-requires c κs = search needs
 
 enum-told-3 : tie.Need-enum-told-3
 enum-told-3 c = search needs
@@ -54,7 +51,7 @@ returns-3 : tie.Need-returns-3
 returns-3 c =
     let a = c .before .before .before .before .before .before .before .before .before .before .args in
     let p = c .before .before .before .before .before .before .before .before .before .before .pre in
-    end-acts (a .state) (a .stop) (a .src .now) (a .out .now) (p .0) (p .1 .0) (p .1 .1 .0) (p .1 .1 .1) (sym (c .before .before .before .before .before .before .next-task .ensures) ∙ c .before .before .before .before .enum-told3 .given .1) _ _ (c .before .before .finish .ensures .1)
+    end-acts (a .state) (a .stop) (a .src .now) (a .out .now) (p .0) (p .1 .0) (p .1 .1 .0) (p .1 .1 .1) (sym (c .before .before .before .before .before .before .next-task .ensures) ∙ c .before .before .before .before .enum-told3 .given .1) (c .before .before .finish .ensures .1)
 
 pub go-on-spec : {M : Type 1} → statement M
 go-on-spec =

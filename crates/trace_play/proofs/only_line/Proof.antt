@@ -17,7 +17,7 @@ returns : tie.Need-returns
 returns c =
     let k = c .before .before .before .before .last-line in
     let f = c .flush .ensures in
-    (f .0, record { to = c .flush .result; end = k .result; room = k .last .1 .1 .1 .1 .0; text = k .ensures .0; flushed = f .1; work = refl })
+    (f .0, record { to = c .flush .result; end = k .result; text = k .ensures .0; flushed = f .1; work = refl })
 
 pub only-line-spec : {M : Type 1} → statement M
 only-line-spec = tie.close (tie.spec last-line-requires flush-requires same-length returns)

@@ -97,7 +97,7 @@ same-length-7 c = c .before .before .loop .inv .13
 returns : tie.Need-returns Inv-loop μ-loop
 returns c =
     let l = c .before .before .loop in
-    record { account = l .inv .6 .0; state = l .state; lent = _; plays = l .inv .6 .1; done = sym (l .inv .5) ∙ not-false _ (c .before .loop-test .left); work = refl }
+    record { account = l .inv .6 .0; state = l .state; plays = l .inv .6 .1; done = sym (l .inv .5) ∙ not-false _ (c .before .loop-test .left); work = refl }
 
 pub play-spec : {M : Type 1} → statement M
 play-spec =
