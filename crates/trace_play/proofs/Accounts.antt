@@ -11,15 +11,21 @@ use borrow.Author.Tests.{le-leb}
 use Rattle.chunks.proofs.Parts.{drop-take}
 use Rattle.memory.proofs.Laws.{never}
 use Rattle.rules.specs.State.{Conn}
+use Rattle.rules.specs.Settings.{checked}
+use Rattle.rules.specs.declared.Settings.{Settings}
+use Rattle.rules.specs.declared.Checked.{Checked}
+use Rattle.rules.specs.declared.Checked.the-variants as settings
 use Rattle.connection.specs.Abstract.{absOf, Valid}
 use Rattle.trace.specs.Runs.{Traced, only, runs}
-use Rattle.trace.specs.Output.{begunAs, lastLine, allowance, output, remaining, IsLast}
+use Rattle.trace.specs.Output.{isSmall, sizesOf, judgedAs, begunAs, lastLine, allowance, output, remaining, IsLast}
 use Rattle.trace.specs.Turns.{Runs, RanAs, runsFrom}
 use Rattle.trace.specs.declared.Stop.{Stop}
 use Rattle.trace.specs.declared.Stop.the-variants as stop
 use Rattle.trace.specs.declared.Report.{Report}
+use Rattle.trace.specs.declared.ends.Sizes.{Sizes}
 use Rattle.trace.specs.declared.ends.Begun.the-variants as begun
 use Rattle.trace_events.specs.Format.{settingsAt}
+use Rattle.trace_events.specs.declared.Preamble.{Preamble}
 use Rattle.trace_events.specs.declared.Preamble.the-variants as preamble
 use Rattle.trace_events.proofs.More.{Settles}
 use Rattle.trace_events.proofs.Settings.{settings-more}
@@ -61,13 +67,14 @@ pub record Stands (a : Account) (s : State) (m : Lent) : Type 0 where
   pub put : s .standing .put ≤ length (m .room)
   pub owes : (next : List ℕ) → output (a .brought ++ next) ≡ a .put ++ (take (s .standing .put) (m .room) ++ remaining (s .applied) (conn s m) (rest s m ++ next))
 
--- The last line of a text stands at the room's start.
+-- The last line of a text stands at the room's start: one of a run that is over, for a run that stopped for room has none.
 pub record Lasts (text room : List ℕ) : Type 0 where
   pub front : List ℕ
   pub why : Stop
   pub left : ℕ
   pub applied : ℕ
   pub growth : ℕ
+  pub over : IsLast [] why
   pub is : text ≡ front ++ lastLine why left applied growth
   pub there : Prefix (lastLine why left applied growth) room
 
@@ -229,8 +236,8 @@ module _ (a : Account) (s : State) (m : Lent) (z : Stands a s m) (b : Account) (
   Ends = (next : List ℕ) → (s .standing .ended ≡ true → next ≡ []) → output (a .brought ++ next) ≡ a .put ++ (lines ++ line)
 
   -- all is done where the last line did its work
-  whole-after : (c d : Account) (y : Standing) → Ends → y .ended ≡ s .standing .ended → c ≡ writes lines → d ≡ writes line → Prefix line (m′ .room) → After (then a (then c d)) (moved s₁ (over y)) m′
-  whole-after c d y e same p q there =
+  whole-after : (c d : Account) (y : Standing) → Ends → y .ended ≡ s .standing .ended → c ≡ writes lines → d ≡ writes line → IsLast [] (k .report .stop) → Prefix line (m′ .room) → After (then a (then c d)) (moved s₁ (over y)) m′
+  whole-after c d y e same p q is-last there =
       rw (p, q, append-nil (a .brought)) (record {
         stands = λ g. never g;
         told = record {
@@ -242,6 +249,7 @@ module _ (a : Account) (s : State) (m : Lent) (z : Stands a s m) (b : Account) (
             left = s .standing .have - k .report .place .at;
             applied = k .report .place .applied;
             growth = k .report .connection .growth;
+            over = is-last;
             is = ap output (sym (append-nil (a .brought))) ∙ e [] (λ g. refl) ∙ sym (append-assoc (a .put) lines line);
             there = there;
           };
@@ -276,7 +284,7 @@ module _ (a : Account) (s : State) (m : Lent) (z : Stands a s m) (b : Account) (
       go (broken {a} {x} f d) i = broken-after a x all (f .puts) f d
       go (last {a} {b} {x} {y} {room′} end f d t g) i =
           let text : take end room′ ≡ line = t ∙ rw e in
-          whole-after a b y all (same (putting x end) y (g .written) (g .is) ∙ same (s₁ .standing) x (f .written) (f .is)) (f .puts) (g .puts ∙ ap writes text) (rw i (stands-there end room′ line text))
+          whole-after a b y all (same (putting x end) y (g .written) (g .is) ∙ same (s₁ .standing) x (f .written) (f .is)) (f .puts) (g .puts ∙ ap writes text) (rw e (l [] (λ g. refl))) (rw i (stands-there end room′ line text))
 
   goes-after : (why : Stop) (ended : Bool) → s .standing .ended ≡ ended → k .report .stop ≡ why → GoesOn (nextTask why ended) why s₁ (m .input) (k .written) b s′ (m′ .input) (m′ .room) → After (then a b) s′ m′
   goes-after stop.Full ended i e g =
@@ -305,6 +313,26 @@ plays-after : (a₀ : Account) (s : State) (m : Lent) → After a₀ s m → {a 
 plays-after a₀ s m z none = subst (λ (c : Account). After c s m) (sym (then-nothing a₀)) z
 plays-after a₀ s m z (more {a} {b} {s₁} {s₂} {m₁} {m₂} p q) = one-more a₀ a b s₁ s₂ m₁ m₂ (plays-after a₀ s m z p) q
 
+-- where no event is reached the run is over
+begun-over : (x : Preamble) (why : Stop) → begunAs x ≡ begun.Stop why → IsLast [] why
+begun-over x why e = go x e
+  where
+    by : (a : Stop) → IsLast [] a → begun.Stop a ≡ begun.Stop why → IsLast [] why
+    by a h q = let z : a ≡ why = cc in subst (IsLast []) z h
+
+    small : (t : Settings) (y : Sizes) (next : ℕ) (b : Bool) → cond b (begun.Fine t y next) (begun.Stop stop.Refused) ≡ begun.Stop why → IsLast [] why
+    small t y next true f = absurd (let z : _≡_ {A = ℕ} 0 1 = cc in omega arith)
+    small t y next false f = by stop.Refused tt f
+
+    judged : (t : Settings) (next : ℕ) (y : Checked) → judgedAs y t next ≡ begun.Stop why → IsLast [] why
+    judged t next (settings.Wrong w) f = by stop.Refused tt f
+    judged t next (settings.Fine c) f = small t (sizesOf c) next (isSmall c) f
+
+    go : (y : Preamble) → begunAs y ≡ begun.Stop why → IsLast [] why
+    go (preamble.Settings t next) f = judged t next (checked t) f
+    go preamble.Short f = by stop.Bad tt f
+    go preamble.Bad f = by stop.Bad tt f
+
 -- no event is reached, whatever comes after where the input has not ended
 none-after : (s next : List ℕ) (ended : Bool) (why : Stop) → (ended ≡ false → 100 ≤ length s) → (ended ≡ true → next ≡ []) → begunAs (settingsAt s) ≡ begun.Stop why → output (s ++ next) ≡ lastLine why 0 0 0
 none-after s next true why h n e = rw (n refl, append-nil s) (none-reached s why e)
@@ -329,7 +357,7 @@ performed (unreached {b} {room′} have ended input why r n h e o) =
     rw (p, append-nil (take have input)) (
       ([], printed ∙ sym (append-nil (lastLine why 0 0 0))),
       λ q next f. none-after (take have input) next ended why (λ i. rw l (n i)) f e,
-      λ q. record { front = []; why = why; left = 0; applied = 0; growth = 0; is = printed; there = stands-there (o .end) room′ _ (o .text) },
+      λ q. record { front = []; why = why; left = 0; applied = 0; growth = 0; over = begun-over (settingsAt (take have input)) why e; is = printed; there = stands-there (o .end) room′ _ (o .text) },
     )
 performed {m} (played {m′} have ended input t z next r n h e q) =
     let done = q .ended .done in
