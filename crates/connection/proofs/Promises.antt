@@ -1,14 +1,16 @@
 -- How a call comes to its promise: by a wrong size, by a refusal, or by a rule that is handled. Assumes nothing.
-use mathlib.Core.Path.{_≡_, refl, sym, _∙_}
+use mathlib.Core.Path.{_≡_, refl, sym, ap, _∙_}
 use mathlib.Core.Bool.{Bool, true, false}
 use mathlib.Core.List.{List}
 use Prim.Native.Nat.{ℕ}
+use lib.ListN.{length}
 use Rattle.rules.specs.State.{Conn}
 use Rattle.rules.specs.Ending.{Result, refuse}
-use Rattle.rules.specs.Replies.{leavesAll, mayGive}
-use Rattle.rules.specs.Step.{Call, step}
+use Rattle.rules.specs.Replies.{leavesAll, mayGive, countOf}
+use Rattle.rules.specs.Step.{Call, step, read}
 use Rattle.rules.specs.declared.Reply.{Reply}
 use Rattle.rules.specs.declared.Reply.the-variants as reply
+use Rattle.rules.proofs.Counts.{read-counts}
 use Rattle.memory.proofs.Laws.{never}
 use Rattle.memory.proofs.Starts.{nothing-advances}
 use Rattle.connection.specs.Abstract.{absOf, Valid}
@@ -33,6 +35,11 @@ giving-leaves reply.Version h = refl
 giving-leaves reply.Type h = refl
 giving-leaves reply.Body h = never (sym h)
 giving-leaves reply.Size h = never (sym h)
+
+-- a read's value counts the bytes of its rule
+pub read-counted : (c : Connection) (t l p : List ℕ) (time i asked : ℕ) (d : Done) (t′ l′ p′ : List ℕ) → Follows c t l p (step (absOf c t l p) (read time i asked)) d t′ l′ p′
+    → countOf (d .answer .value) ≡ length (step (absOf c t l p) (read time i asked) .outcome .bytes)
+read-counted c t l p time i asked d t′ l′ p′ f = ap countOf (f .says .value) ∙ read-counts (absOf c t l p) time i asked
 
 -- a refusal gives no header
 pub refused-gives : (c : Connection) (r : Reply) (s : List ℕ) → Gives (refused c r) s s

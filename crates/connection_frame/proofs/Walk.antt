@@ -18,6 +18,7 @@ use Rattle.rules.specs.declared.Reply.{Reply}
 use Rattle.rules.specs.declared.Slot.{Slot}
 use Rattle.rules.specs.declared.Which.{Which}
 use Rattle.rules.specs.declared.Which.the-variants as which
+use Rattle.rules.proofs.Lists.{split}
 use Rattle.handlers.specs.Actions.{isUpdate, receive, onReset, newAction, made, first, onSyn, take, onKnown, streamAction}
 use Rattle.handlers.specs.declared.Action.{Action}
 use Rattle.handlers.specs.declared.Action.the-variants as action
@@ -38,17 +39,13 @@ pub record Closed (Q : Action → Type 0) (l : Limits) (k : Known) (v : Which) (
   pub queues : (i : Slot) (s t : Stream) (b : Bool) (o : Answer) → k ≡ known.At i s → t .id ≡ s .id → Roomy l h → mayGive (o .reply) ≡ true → Q (action.Queue i t b o)
   pub makes : (i : Slot) (s : Stream) (o : Answer) → v ≡ which.At i → k ≡ known.Nowhere → isRemote (l .mode) (h .«stream_id») ≡ true → s .id ≡ h .«stream_id» → Roomy l h → mayGive (o .reply) ≡ true → Q (action.New i s o)
 
-picks : {A : Type 0} (Q : A → Type 0) (b : Bool) (x y : A) → (b ≡ true → Q x) → (b ≡ false → Q y) → Q (cond b x y)
-picks Q true x y f g = f refl
-picks Q false x y f g = g refl
-
 -- a stream that takes a frame keeps its id
 receives : (h : Header) (s : Stream) (P : Received → Type 0) → P ProtocolError → ((t : Stream) (w : StreamWakes) → t .id ≡ s .id → P (Taken t w)) → P (receive s h)
 unfolding receive
 receives h s P refused taken =
-    picks P (isUpdate (h .tag)) _ _
-    (λ u. picks P (leb (s .flow .«send_window» + h .length .0) top) _ _ (λ b. taken _ _ refl) (λ b. refused))
-    (λ u. picks P (leb (h .length .0) (s .flow .«receive_window»)) _ _ (λ b. taken _ _ refl) (λ b. refused))
+    split P (isUpdate (h .tag))
+    (λ u. split P (leb (s .flow .«send_window» + h .length .0) top) (λ b. taken _ _ refl) (λ b. refused))
+    (λ u. split P (leb (h .length .0) (s .flow .«receive_window»)) (λ b. taken _ _ refl) (λ b. refused))
 
 module _ (Q : Action → Type 0) (l : Limits) (woke : Bool) (k : Known) (v : Which) (h : Header) (now : ℕ) (q : Closed Q l k v h) where
   abbrev n : ℕ
@@ -61,7 +58,7 @@ module _ (Q : Action → Type 0) (l : Limits) (woke : Bool) (k : Known) (v : Whi
 
   news : (u : Which) → v ≡ u → (s : Stream) → k ≡ known.Nowhere → isRemote (l .mode) (h .«stream_id») ≡ true → s .id ≡ h .«stream_id» → Q (newAction u (l .room) woke s n)
   news which.None e s g r d = q .refuses _
-  news (which.At i) e s g r d = picks Q (ltb (l .room) n) _ _ (λ b. q .refuses _) (λ b. q .makes i s _ e g r d b refl)
+  news (which.At i) e s g r d = split Q (ltb (l .room) n) (λ b. q .refuses _) (λ b. q .makes i s _ e g r d b refl)
 
   firsts : k ≡ known.Nowhere → isRemote (l .mode) (h .«stream_id») ≡ true → Q (first (l .room) woke v h now)
   firsts g r =
@@ -70,10 +67,10 @@ module _ (Q : Action → Type 0) (l : Limits) (woke : Bool) (k : Known) (v : Whi
   syns : (j : Known) → k ≡ j → Q (onSyn l woke j v h now)
   unfolding onSyn
   syns (known.At i s) e =
-      picks Q (isRemote (l .mode) (h .«stream_id»)) _ _ (λ b. q .stores i s s true _ e refl refl) (λ b. q .stores i s s true _ e refl refl)
+      split Q (isRemote (l .mode) (h .«stream_id»)) (λ b. q .stores i s s true _ e refl refl) (λ b. q .stores i s s true _ e refl refl)
   syns known.Nowhere e =
-      picks Q (isRemote (l .mode) (h .«stream_id»)) _ _
-      (λ b. picks Q (leb (l .«max_num_streams») (l .listed)) _ _ (λ m. q .answers _ refl) (λ m. firsts e b))
+      split Q (isRemote (l .mode) (h .«stream_id»))
+      (λ b. split Q (leb (l .«max_num_streams») (l .listed)) (λ m. q .answers _ refl) (λ m. firsts e b))
       (λ b. q .answers _ refl)
 
   knows : (j : Known) → k ≡ j → Q (onKnown (l .room) woke j h)
@@ -81,10 +78,10 @@ module _ (Q : Action → Type 0) (l : Limits) (woke : Bool) (k : Known) (v : Whi
   knows known.Nowhere e = q .answers _ refl
   knows (known.At i s) e =
       receives h s (λ x. Q (take i s (l .room) woke (contains (h .flags) fin) n x)) (q .stores i s s true _ e refl refl)
-      (λ t w d. picks Q (ltb (l .room) n) _ _ (λ b. q .refuses _) (λ b. picks Q (eqb n 0) _ _ (λ z. q .stores i s t _ _ e d refl) (λ z. q .queues i s t _ _ e d b refl)))
+      (λ t w d. split Q (ltb (l .room) n) (λ b. q .refuses _) (λ b. split Q (eqb n 0) (λ z. q .stores i s t _ _ e d refl) (λ z. q .queues i s t _ _ e d b refl)))
 
   pub walk : Q (streamAction l woke k v h now)
   unfolding streamAction
   walk =
-      picks Q (contains (h .flags) rst) _ _ (λ b. resets k refl)
-      (λ b. picks Q (contains (h .flags) syn) _ _ (λ s. syns k refl) (λ s. knows k refl))
+      split Q (contains (h .flags) rst) (λ b. resets k refl)
+      (λ b. split Q (contains (h .flags) syn) (λ s. syns k refl) (λ s. knows k refl))

@@ -10,16 +10,15 @@ use Rattle.rules.specs.State.{Conn}
 use Rattle.rules.specs.Ending.{Result}
 use Rattle.rules.specs.Step.{step, read}
 use Rattle.rules.specs.declared.Reply.{Reply}
-use Rattle.rules.proofs.Counts.{read-counts}
 use Rattle.table.specs.declared.row.Row.{Row}
 use Rattle.handlers.specs.Locals.{isShut, nothingRead}
 use Rattle.connection.specs.Abstract.{absOf, Valid}
 use Rattle.connection.specs.Parts.{answered, handleOf, Holds}
-use Rattle.connection.specs.Promises.{refused, sentAfter, outAfter, Promised}
+use Rattle.connection.specs.Promises.{refused, sentAfter, Promised}
 use Rattle.connection.specs.declared.Connection.{Connection}
 use Rattle.connection.specs.declared.Done.{Done}
 use Rattle.connection.specs.declared.Handle.the-variants.{Held, Refused}
-use Rattle.connection.proofs.Promises.{same-handles, acted, promised}
+use Rattle.connection.proofs.Promises.{same-handles, acted, promised, read-counted}
 use Rattle.connection.proofs.Moving.{answer-follows}
 use Rattle.connection.proofs.Tests.{handle-shut, handle-held}
 use Rattle.connection_read.specs.Promises.{ruleOf, Reads, Outputs}
@@ -63,7 +62,7 @@ module _ (c : Connection) (t l p : List ℕ) (i : ℕ) (out : List ℕ) (time : 
       let kept = handle-shut c t l p sized (read time i (length out)) time i (ruleOf (absOf c t l p) i (length out) time) r e (λ v. refl) in (
         kept,
         record {
-          bytes = λ s v. rw (no-bytes (step (absOf c t l p) (read time i (length out)) .outcome .bytes) (ap countOf (kept .steps s v .says .value) ∙ read-counts (absOf c t l p) time i (length out)));
+          bytes = λ s v. rw (no-bytes (step (absOf c t l p) (read time i (length out)) .outcome .bytes) (read-counted c t l p time i (length out) _ t l p (kept .steps s v)));
           within = omega arith;
           past = refl;
           quiet = λ q. refl;

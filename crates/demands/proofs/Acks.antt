@@ -17,7 +17,8 @@ use Rattle.rules.specs.State.{Entry, Conn, vacant, entry, one, hasId, listedCou
 use Rattle.rules.specs.Frames.{Acked, isKnown, ackStep, acknowledgeAt}
 use Rattle.rules.proofs.Lists.{Says, sum-set, both}
 use Rattle.demands.specs.Demands.{heldCount}
-use Rattle.demands.proofs.Lists.{split, true-not-false, at-set}
+use Rattle.rules.proofs.Lists.{split}
+use Rattle.demands.proofs.Lists.{true-not-false, at-set}
 use Rattle.demands.proofs.Invariant.{Inv, Stays, held-good, stays}
 use Rattle.demands.proofs.Sound.{bytesOf, bytes-same}
 

@@ -23,7 +23,7 @@ use Rattle.rules.specs.Calls.{growthOf, readRest, readWith, readRules, dropAt, 
 use Rattle.rules.specs.Step.{step, run}
 use Rattle.rules.specs.Step as rules
 use Rattle.demands.specs.Theorems.{lastOwn}
-use Rattle.demands.proofs.Lists.{split}
+use Rattle.rules.proofs.Lists.{split}
 use Rattle.demands.proofs.Invariant.{Inv}
 use Rattle.demands.proofs.Steps.{sound}
 

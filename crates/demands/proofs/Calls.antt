@@ -25,7 +25,7 @@ use Rattle.rules.specs.State.{Entry, Conn, vacant, entry, withSlot, withStream,
 use Rattle.rules.specs.Ending.{Result}
 use Rattle.rules.specs.Calls.{readEntry, readRest, readWith, windowStep, readRules, writeWith, writeRules, closeRules}
 use Rattle.demands.specs.History.{nothing, gaveOut}
-use Rattle.demands.proofs.Lists.{split}
+use Rattle.rules.proofs.Lists.{split}
 use Rattle.demands.proofs.Invariant.{Flows, Inv, Stays, held-good, in-range, stays}
 use Rattle.demands.proofs.Sound.{Sound, bytesOf, bytes-put, bytes-same, same-put, refused, done}
 use Rattle.demands.proofs.Windows.{Grows, window}

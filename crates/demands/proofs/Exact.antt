@@ -38,7 +38,8 @@ use Rattle.rules.specs.Step as rules
 use Rattle.rules.proofs.Lists.{Says, first-says, sum-set}
 use Rattle.demands.specs.Demands.{heldCount, and, ruled, opens, opensByCredit, opensAs, queues, queuesAs}
 use Rattle.demands.specs.Theorems.{Exactly, SameHeld, Opened}
-use Rattle.demands.proofs.Lists.{split, true-not-false, at-set, sum-spare}
+use Rattle.rules.proofs.Lists.{split}
+use Rattle.demands.proofs.Lists.{true-not-false, at-set, sum-spare}
 use Rattle.demands.proofs.Invariant.{Inv}
 use Rattle.demands.proofs.Sound.{at-end}
 use Rattle.demands.proofs.Acks.{Acks, Located}

@@ -31,7 +31,8 @@ use Rattle.rules.proofs.Lists.{Says, first-says, both}
 use Rattle.demands.specs.Demands.{Reach, heldCount, admits}
 use Rattle.demands.specs.Theorems.{Gave}
 use Rattle.demands.specs.Progress.{FrameFor, ackTaken, InLowest}
-use Rattle.demands.proofs.Lists.{split, true-not-false, sum-full}
+use Rattle.rules.proofs.Lists.{split}
+use Rattle.demands.proofs.Lists.{true-not-false, sum-full}
 use Rattle.demands.proofs.Invariant.{Inv}
 use Rattle.demands.proofs.Acks.{Acks, Located, after-ack, unmoved, acknowledges}
 use Rattle.demands.proofs.Steps.{reached}

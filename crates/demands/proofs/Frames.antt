@@ -24,7 +24,7 @@ use Rattle.rules.specs.Ending.{Result}
 use Rattle.rules.specs.Frames.{Acked, ackStep, synData, synUpdate, dataRules, updateRules, pongRules, pingRules, answersPing, frameRules, bodyLength, onHeader}
 use Rattle.rules.proofs.Lists.{first-says}
 use Rattle.demands.specs.History.{byTag}
-use Rattle.demands.proofs.Lists.{split}
+use Rattle.rules.proofs.Lists.{split}
 use Rattle.demands.proofs.Invariant.{Flows, Inv}
 use Rattle.demands.proofs.Sound.{Sound, refused, done, ends}
 use Rattle.demands.proofs.Acks.{Acks, Located, after-ack, unmoved, acknowledges}

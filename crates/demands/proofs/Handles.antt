@@ -26,7 +26,8 @@ use Rattle.rules.specs.Frames.{newEntry}
 use Rattle.rules.specs.Calls.{openAt, open-rules, growthOf, removedEntry, dropAt, dropRules, pingOut, tickRules}
 use Rattle.rules.proofs.Lists.{Says, first-says, sum-at}
 use Rattle.demands.specs.History.{nothing, freed, tells, isDone, put}
-use Rattle.demands.proofs.Lists.{split, true-not-false, at-set}
+use Rattle.rules.proofs.Lists.{split}
+use Rattle.demands.proofs.Lists.{true-not-false, at-set}
 use Rattle.demands.proofs.Invariant.{Inv, Kept, Fit, Stays, idAt, vacant-good, held-good, in-range, replaced, stays}
 use Rattle.demands.proofs.Sound.{Sound, Beside, moves, bytesOf, put-same, put-other, bytes-put, bytes-same, refused, done, ends}
 use Rattle.demands.proofs.Acks.{Located, is-listed}

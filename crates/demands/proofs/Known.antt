@@ -33,7 +33,8 @@ use Rattle.rules.specs.State.{Entry, vacant, entry, room, withSlot}
 use Rattle.rules.specs.Ending.{Result}
 use Rattle.rules.specs.Frames.{Acked, noAction, goAway, onReset, resetEntry, takenEntry, takeAt, knownData, knownUpdate}
 use Rattle.demands.specs.History.{Event, nothing, tells, brought, byTag, put}
-use Rattle.demands.proofs.Lists.{split, true-not-false}
+use Rattle.rules.proofs.Lists.{split}
+use Rattle.demands.proofs.Lists.{true-not-false}
 use Rattle.demands.proofs.Invariant.{Flows, Good, Stays, held-good, stays}
 use Rattle.demands.proofs.Sound.{Sound, Beside, bytesOf, left, bytes-put, bytes-same, same-put, refused, done}
 use Rattle.demands.proofs.Acks.{Acks, is-listed}

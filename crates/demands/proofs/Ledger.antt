@@ -33,7 +33,8 @@ use Rattle.rules.specs.Calls.{readRest, readWith, windowStep, readRules, writeW
 use Rattle.rules.proofs.Lists.{Says, first-says}
 use Rattle.demands.specs.History.{isDone, put}
 use Rattle.demands.specs.Ledger.{Account, blank, wentOut, opened}
-use Rattle.demands.proofs.Lists.{split, at-set}
+use Rattle.rules.proofs.Lists.{split}
+use Rattle.demands.proofs.Lists.{at-set}
 use Rattle.demands.proofs.Invariant.{in-range}
 use Rattle.demands.proofs.Sound.{put-same, put-other, end-flow, at-end}
 use Rattle.demands.proofs.Acks.{Located}

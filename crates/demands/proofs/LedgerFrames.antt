@@ -30,7 +30,7 @@ use Rattle.rules.specs.Ending.{Result}
 use Rattle.rules.specs.Frames.{Acked, ackStep, isKnown, onReset, resetEntry, makeAt, make, synRules, openedBy, synData, synUpdate, takeAt, knownData, knownUpdate, dataRules, updateRules, pongRules, pingRules, answersPing, frameRules, bodyLength, onHeader}
 use Rattle.rules.proofs.Lists.{Says, first-says}
 use Rattle.demands.specs.Ledger.{Account, blank, creditIn, cameIn, opened, bookedAt, bookedFrame}
-use Rattle.demands.proofs.Lists.{split}
+use Rattle.rules.proofs.Lists.{split}
 use Rattle.demands.proofs.Invariant.{Inv}
 use Rattle.demands.proofs.Acks.{Acks, Located, after-ack, unmoved, acknowledges}
 use Rattle.demands.proofs.Ledger.{Balanced, Balance, both-change, slot-changes, account-changes, end-balance, blank-balanced}

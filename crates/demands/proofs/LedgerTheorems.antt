@@ -25,7 +25,8 @@ use Rattle.rules.specs.Step as rules
 use Rattle.demands.specs.Demands.{heldCount}
 use Rattle.demands.specs.Ledger.{Account, bookedDecoded, booked, Books, new, then, over, usable, heldWindows, heldUsable, FitsHandles}
 use Rattle.demands.specs.Ledger.{CreditIsALedger, SendingIsALedger, UsableIsTheWindow, WindowsAreWithinTheLimit, CreditIsWithinTheLimit, WindowsAreWithinForHandles, CreditIsWithinForHandles, CreditInTheTable, LedgerRuns}
-use Rattle.demands.proofs.Lists.{split, getD-same, sum-le, sum-add, sum-each}
+use Rattle.rules.proofs.Lists.{split}
+use Rattle.demands.proofs.Lists.{getD-same, sum-le, sum-add, sum-each}
 use Rattle.demands.proofs.Invariant.{Good, Inv}
 use Rattle.demands.proofs.Sound.{within}
 use Rattle.demands.proofs.Steps.{started, sound, reached}

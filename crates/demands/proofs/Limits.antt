@@ -36,7 +36,8 @@ use Rattle.rules.specs.Step as rules
 use Rattle.rules.proofs.Lists.{Says, first-says, both, sum-at}
 use Rattle.demands.specs.Demands.{heldCount, ruled, opens, opensAs, takesAt, queuesAs, wouldQueue, openPasses, wouldMake, Overflows}
 use Rattle.demands.specs.Theorems.{endedForReads}
-use Rattle.demands.proofs.Lists.{split, true-not-false, sum-spare}
+use Rattle.rules.proofs.Lists.{split}
+use Rattle.demands.proofs.Lists.{true-not-false, sum-spare}
 use Rattle.demands.proofs.Invariant.{Inv, in-range}
 use Rattle.demands.proofs.Sound.{openWindow, capacity}
 use Rattle.demands.proofs.Acks.{Located, is-listed}

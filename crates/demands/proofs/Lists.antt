@@ -15,11 +15,6 @@ use Rattle.rules.specs.State.{one}
 
 -- ---- tests
 
--- what holds of both branches, each where its test has come out so, holds of the test
-pub split : {A : Type 0} (P : A → Type 0) (b : Bool) {x y : A} → (b ≡ true → P x) → (b ≡ false → P y) → P (cond b x y)
-split P true f g = f refl
-split P false f g = g refl
-
 pub true-not-false : {P : Type 0} {b : Bool} → b ≡ true → b ≡ false → P
 true-not-false t f = absurd (subst T (sym t ∙ f) tt)
 

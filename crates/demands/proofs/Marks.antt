@@ -34,7 +34,8 @@ use Rattle.rules.specs.Frames.{Acked, ackStep, frameWakes, quiet, answer, whose
 use Rattle.rules.specs.Step as rules
 use Rattle.rules.proofs.Lists.{first-says}
 use Rattle.demands.specs.Demands.{and}
-use Rattle.demands.proofs.Lists.{split, true-not-false}
+use Rattle.rules.proofs.Lists.{split}
+use Rattle.demands.proofs.Lists.{true-not-false}
 use Rattle.demands.proofs.Invariant.{Inv}
 use Rattle.demands.proofs.Acks.{Acks, Located, SameWaits, after-ack, unmoved, acknowledges}
 

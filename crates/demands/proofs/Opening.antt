@@ -24,7 +24,8 @@ use Rattle.rules.specs.Ending.{Result}
 use Rattle.rules.specs.Frames.{Acked, newEntry, makeAt, make, synRules}
 use Rattle.rules.specs.Calls.{growthOf}
 use Rattle.rules.proofs.Lists.{Says, first-says}
-use Rattle.demands.proofs.Lists.{split, true-not-false}
+use Rattle.rules.proofs.Lists.{split}
+use Rattle.demands.proofs.Lists.{true-not-false}
 use Rattle.demands.proofs.Invariant.{Flows, Good, Fit, idAt, held-good, in-range, replaced}
 use Rattle.demands.proofs.Sound.{Beside, bytes-put, refused, done}
 use Rattle.demands.proofs.Acks.{Acks}

@@ -24,7 +24,8 @@ use Rattle.rules.specs.State.{Entry, Conn, vacant, entry, hasId, find, lowestFr
 use Rattle.rules.specs.Ending.{Result}
 use Rattle.rules.specs.Calls.{growthOf, openAt, open-rules, readEntry, readRest, readWith, windowStep, readRules, writeWith, writeRules, closeRules, removedEntry, dropAt, dropRules, pingOut, tickRules}
 use Rattle.rules.proofs.Lists.{first-says}
-use Rattle.demands.proofs.Lists.{split, at-set}
+use Rattle.rules.proofs.Lists.{split}
+use Rattle.demands.proofs.Lists.{at-set}
 use Rattle.demands.proofs.Invariant.{in-range}
 use Rattle.demands.proofs.Acks.{Located, SameWaits}
 use Rattle.demands.proofs.Marks.{clear-kept, clear-set, clear-off, Marks, Goes, Waits, stay, same-marks, idle, refused, calm, itself, none}

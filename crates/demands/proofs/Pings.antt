@@ -14,7 +14,7 @@ use Rattle.rules.specs.Frames.{isKnown, answersPing, pongRules, pingRules, fram
 use Rattle.rules.specs.Calls.{pingOut, tickRules}
 use Rattle.rules.specs.Step.{step}
 use Rattle.demands.specs.Progress.{PingedAt, PingIsAnswered, PongIsTaken, TickIsSent}
-use Rattle.demands.proofs.Lists.{split}
+use Rattle.rules.proofs.Lists.{split}
 use Rattle.demands.proofs.Invariant.{Inv}
 use Rattle.demands.proofs.Steps.{reached}
 use Rattle.demands.proofs.Answers.{timely, alive}

@@ -34,7 +34,8 @@ use Rattle.rules.specs.Step.{step}
 use Rattle.rules.proofs.Lists.{Says, first-says}
 use Rattle.demands.specs.Demands.{heldCount}
 use Rattle.demands.specs.Progress.{Goes, Takes, Credits, Resets, Sends, finSent, DataIsTaken, CreditIsAdded, ResetIsTaken, SynIsOpened, UpdateIsOpened, OpenIsGiven, WriteIsSent, CloseIsSent, DropIsSent}
-use Rattle.demands.proofs.Lists.{split, true-not-false}
+use Rattle.rules.proofs.Lists.{split}
+use Rattle.demands.proofs.Lists.{true-not-false}
 use Rattle.demands.proofs.Invariant.{in-range}
 use Rattle.demands.proofs.Acks.{Acks, is-listed}
 use Rattle.demands.proofs.Steps.{reached}

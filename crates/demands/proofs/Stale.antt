@@ -33,7 +33,8 @@ use Rattle.rules.specs.Step.{step}
 use Rattle.rules.specs.Step as rules
 use Rattle.rules.proofs.Lists.{Says, first-says}
 use Rattle.demands.specs.Handles.{Stale, Drops, StaleRead, StaleWrite, StaleClose, StaleDrop, StaleDropThenNew, NewDrop, aboutDecoded, OthersStay, FramesPassStale}
-use Rattle.demands.proofs.Lists.{split, true-not-false, at-set}
+use Rattle.rules.proofs.Lists.{split}
+use Rattle.demands.proofs.Lists.{true-not-false, at-set}
 use Rattle.demands.proofs.Invariant.{Inv, in-range}
 use Rattle.demands.proofs.Acks.{is-listed, is-id}
 use Rattle.demands.proofs.Steps.{sound, reached}

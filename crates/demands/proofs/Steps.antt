@@ -30,7 +30,8 @@ use Rattle.demands.specs.Demands.{Reach, new, then}
 use Rattle.demands.specs.Handles.{about, aboutDecoded}
 use Rattle.demands.specs.History.{Event, nothing, gaveOut, event, byFrame}
 use Rattle.rules.proofs.Lists.{both}
-use Rattle.demands.proofs.Lists.{split, true-not-false, getD-same, sum-none}
+use Rattle.rules.proofs.Lists.{split}
+use Rattle.demands.proofs.Lists.{true-not-false, getD-same, sum-none}
 use Rattle.demands.proofs.Invariant.{Allowed, Inv, vacant-good}
 use Rattle.demands.proofs.Sound.{Sound, left, same-put, bytesOf, refused, ends}
 use Rattle.demands.proofs.Frames.{headers}

@@ -22,7 +22,8 @@ use Rattle.rules.specs.Step as rules
 use Rattle.demands.specs.Demands.{Reach, then, heldCount, ruled, wouldOpen, wouldQueue, wouldMake, Overflows}
 use Rattle.demands.specs.History.{event}
 use Rattle.demands.specs.Theorems.{endedForReads, GrowthIsASum, GrowthIsWithin, GrowthIsReturned, GrowthStays, WindowsAreWithin, BytesAreKept, UnreadIsTheRest, ReadsGiveTheNext, ReadsGiveAll, EndedReadsGiveNone, UnreadIsWithin, Opened, SevenExactly, EightExactly, WouldOpenIsExact, RoomForHandles, RoomForM, UnqueuedNeedNoRoom, RoomForK, IdsAreOurs, IdsRise, IdsGoByTwo, NextIdIsAbove, ListedAreDistinct, ListedAreHeld, UnlistedAreClosed, FreeAreVacant, TableIsWithin, RefusalsChangeNothing, OnlyDoneGives, SettingsAreAllowed, SettingsStay}
-use Rattle.demands.proofs.Lists.{split, true-not-false, sum-eq, sum-count}
+use Rattle.rules.proofs.Lists.{split}
+use Rattle.demands.proofs.Lists.{true-not-false, sum-eq, sum-count}
 use Rattle.demands.proofs.Invariant.{Good, Inv}
 use Rattle.demands.proofs.Sound.{moves}
 use Rattle.demands.proofs.Steps.{sound, started, reached, run-reaches}

@@ -41,7 +41,8 @@ use Rattle.demands.specs.Demands.{and}
 use Rattle.demands.specs.History.{isDone}
 use Rattle.demands.specs.Theorems.{Gave, endedForReads, isOpen, idOf, ids, byTwo}
 use Rattle.demands.specs.Waits.{Sets, Waiting, Opens, Reads, Writes, IsWoken, WaitsAreSet, OnlyWaitsSet, AcksWakeTheOpen, wakesReader, wakesWriter, TakenWakes, Unreported, OnlyTakenWakes}
-use Rattle.demands.proofs.Lists.{split, true-not-false, at-set}
+use Rattle.rules.proofs.Lists.{split}
+use Rattle.demands.proofs.Lists.{true-not-false, at-set}
 use Rattle.demands.proofs.Invariant.{Inv, in-range}
 use Rattle.demands.proofs.Steps.{sound, reached}
 use Rattle.demands.proofs.Answers.{alive}

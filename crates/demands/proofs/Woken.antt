@@ -31,7 +31,8 @@ use Rattle.rules.specs.Frames.{Acked, ackStep, answer, whose, frameWakes, quiet
 use Rattle.rules.proofs.Lists.{Says, first-says}
 use Rattle.demands.specs.History.{isDone}
 use Rattle.demands.specs.Waits.{IsWoken, Fares, hasAckStep, wakesReader, wakesWriter, Unreported}
-use Rattle.demands.proofs.Lists.{split, true-not-false, at-set}
+use Rattle.rules.proofs.Lists.{split}
+use Rattle.demands.proofs.Lists.{true-not-false, at-set}
 use Rattle.demands.proofs.Invariant.{Inv}
 use Rattle.demands.proofs.Sound.{at-end}
 use Rattle.demands.proofs.Acks.{Acks, SameWaits, after-ack, unmoved, acknowledges}

@@ -12,7 +12,7 @@ use Rattle.rules.specs.Replies.{countOf}
 use Rattle.rules.specs.State.{Conn}
 use Rattle.rules.specs.Step.{Call, step, run, frame, read}
 use Rattle.rules.specs.declared.Settings.{Settings}
-use Rattle.rules.proofs.Counts.{read-counts}
+use Rattle.connection.proofs.Promises.{read-counted}
 use Rattle.rules.specs.declared.Checked.{Checked}
 use Rattle.rules.specs.declared.Checked.the-variants as settings
 use Rattle.connection.specs.Abstract.{absOf, Valid}
@@ -113,7 +113,7 @@ given c t l p h a true time i out sent d t′ l′ p′ out′ sent′ promised 
     let bytes = step (absOf c t l p) (read time i (length out)) .outcome .bytes in
     outputs .bytes refl (lives a .valid)
     ∙ ap (λ (b : List ℕ). b ++ drop (length bytes) out) (reads-give-the-next (absOf c t l p) h (lives a .told) time i (length out))
-    ∙ ap (λ (n : ℕ). take n (drop (length (h i .given)) (h i .taken)) ++ drop n out) (sym (ap countOf (f .says .value) ∙ read-counts (absOf c t l p) time i (length out)))
+    ∙ ap (λ (n : ℕ). take n (drop (length (h i .given)) (h i .taken)) ++ drop n out) (sym (read-counted c t l p time i (length out) d t′ l′ p′ f))
 
 pub room : Room
 room c t l p h a large time head body few false d t′ l′ p′ promised full =

@@ -30,7 +30,7 @@ use Rattle.rules.specs.declared.Slot.{Slot}
 use Rattle.rules.specs.declared.Which.{Which}
 use Rattle.rules.proofs.Lists.{Says, first-says, sum-kept}
 use Rattle.handlers.specs.Actions as actions
-use Rattle.handlers.specs.Actions.{receive, violated, fullCode, newAction, made, first, onSyn, kept, take, onKnown, streamAction, pongHeard, onPing}
+use Rattle.handlers.specs.Actions.{receive, violated, fullCode, newAction, made, first, onSyn, queuedIf, take, onKnown, streamAction, pongHeard, onPing}
 use borrow.Author.Tests.{eqb-true}
 use Rattle.handlers.specs.Perform.{outcomeOf, heard, changed, perform, knownAt, limitsOf, wakesOpen, ofStream}
 use Rattle.handlers.specs.declared.Known.{Known}
@@ -83,8 +83,8 @@ module _ (c : Conn) (woke : Bool) (h : Header) (body : List ℕ) where
   violates (known.At i s) l = rw (l .1, l .2, append-nil)
   violates known.Nowhere l = refl
 
-  -- a body of no bytes is kept as one that is queued
-  keeps : (i : Slot) (t : Stream) (listed : Bool) (n : ℕ) (o : Answer) → length body ≡ n → (r : Result) → r ≡ does (action.Queue i t listed o) → r ≡ does (kept i t listed n o)
+  -- a body of no bytes is stored as one that is queued
+  keeps : (i : Slot) (t : Stream) (listed : Bool) (n : ℕ) (o : Answer) → length body ≡ n → (r : Result) → r ≡ does (action.Queue i t listed o) → r ≡ does (queuedIf i t listed n o)
   unfolding perform
   keeps i t listed n o e r q = go (eqb n 0) refl
     where

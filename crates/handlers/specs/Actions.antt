@@ -126,13 +126,13 @@ abbrev pub stays : Bool → Stream → Bool
 stays finished s = cond finished (not (isClosed (s .state))) true
 
 -- a body of no bytes touches no queue
-abbrev pub kept : Slot → Stream → Bool → ℕ → Answer → Action
-kept i t listed n o = cond (eqb n 0) (action.Store i t listed o) (action.Queue i t listed o)
+abbrev pub queuedIf : Slot → Stream → Bool → ℕ → Answer → Action
+queuedIf i t listed n o = cond (eqb n 0) (action.Store i t listed o) (action.Queue i t listed o)
 
 abbrev pub take : Slot → Stream → ℕ → Bool → Bool → ℕ → Received → Action
 take i s room woke finished n ProtocolError = violated woke (known.At i s)
 take i s room woke finished n (Taken t w) =
-    cond (ltb room n) (action.Refuse reply.NoRoom) (kept i t (stays finished t) n (told woke i w))
+    cond (ltb room n) (action.Refuse reply.NoRoom) (queuedIf i t (stays finished t) n (told woke i w))
 
 unfoldable pub onKnown : ℕ → Bool → Known → Header → Action
 onKnown room woke known.Nowhere h = action.Answer (noAction woke)

@@ -42,6 +42,7 @@ pub fn on_known(room: u32, woke: bool, known: Known, header: Header) -> Action
     let flags = header.flags;
     let listed = stays(flags.contains(FIN), taken);
     let answer = answers::told(woke, slot, wakes);
+    // A body of no bytes touches no queue.
     if n == 0 {
         return Action::Store(slot, taken, listed, answer);
     }

@@ -1,6 +1,6 @@
 -- A read's value counts the bytes that it gives. Assumes nothing.
 use mathlib.Core.Path.{_≡_, refl, sym}
-use mathlib.Core.Bool.{Bool, true, false, cond}
+use mathlib.Core.Bool.{true, false, cond}
 use Prim.Native.Nat.{ℕ, min, _≤_}
 use native.Mathlib.Omega.{arith}
 use lib.Dec.{ltb}
@@ -16,14 +16,10 @@ use Rattle.rules.specs.State.{Entry, Conn, entry}
 use Rattle.rules.specs.Ending.{Result}
 use Rattle.rules.specs.Calls.{readRest, readWith, windowStep, readRules}
 use Rattle.rules.specs.Step.{step, read}
+use Rattle.rules.proofs.Lists.{either}
 
 record Counting (r : Result) : Type 0 where
   counted : countOf (r .outcome .value) ≡ length (r .outcome .bytes)
-
--- what holds of both holds of either
-either : (t : Bool) {a b : Result} → Counting a → Counting b → Counting (cond t a b)
-either true a b = a
-either false a b = b
 
 rest-counts : (c : Conn) (i : ℕ) (e : Entry) (u : Updated) (n : ℕ) (r : ReadEnd) → n ≤ length (e .bytes) → Counting (readRest c i e u n r)
 unfolding readRest
@@ -40,13 +36,13 @@ with-counts c i e asked u =
 rules-count : (c : Conn) (i : ℕ) (e : Entry) (asked now : ℕ) → Counting (readRules c i e asked now)
 unfolding readRules
 rules-count c i e asked now =
-    either (cond (c .ended) (cond (c .config .«read_after_close») false true) false) (record { counted = refl }) (with-counts c i e asked (windowStep c e now))
+    either Counting (cond (c .ended) (cond (c .config .«read_after_close») false true) false) (record { counted = refl }) (with-counts c i e asked (windowStep c e now))
 
 step-counts : (c : Conn) (now i asked : ℕ) → Counting (step c (read now i asked))
 unfolding step
 step-counts c now i asked =
-    either (ltb lastTime now) (record { counted = refl })
-    (either (entry (c .slots) i .held) (rules-count c i (entry (c .slots) i) asked now) (record { counted = refl }))
+    either Counting (ltb lastTime now) (record { counted = refl })
+    (either Counting (entry (c .slots) i .held) (rules-count c i (entry (c .slots) i) asked now) (record { counted = refl }))
 
 pub read-counts : (c : Conn) (now i asked : ℕ)
     → countOf (step c (read now i asked) .outcome .value) ≡ length (step c (read now i asked) .outcome .bytes)

@@ -9,6 +9,14 @@ use lib.ListN.{length, getD, drop, set}
 use lib.Seq.{drop-cons}
 use Rattle.rules.specs.Lists.{Place, at, nowhere, past, first, sum}
 
+-- what holds of both branches, each where its test has come out so, holds of the test
+pub split : {A : Type 0} (P : A → Type 0) (b : Bool) {x y : A} → (b ≡ true → P x) → (b ≡ false → P y) → P (cond b x y)
+split P true f g = f refl
+split P false f g = g refl
+
+pub either : {A : Type 0} (P : A → Type 0) (b : Bool) {x y : A} → P x → P y → P (cond b x y)
+either P b f g = split P b (λ e. f) (λ e. g)
+
 -- two tests that both pass
 pub both : (a b : Bool) → cond a b false ≡ true → (a ≡ true) × (b ≡ true)
 both true b e = (refl, e)

@@ -15,7 +15,7 @@ use Rattle.rules.specs.Ending.{Result, refuse}
 use Rattle.rules.specs.Step.{Call, step, timed, holding}
 use Rattle.rules.specs.Step as rules
 use Rattle.rules.specs.declared.Reply.the-variants as reply
-use Rattle.rules.proofs.Counts.{read-counts}
+use Rattle.connection.proofs.Promises.{read-counted}
 use Rattle.memory.proofs.Laws.{sized-table, sized-links, sized-fits, entry-beyond}
 use Rattle.memory.specs.Counts.{tableFits, fits}
 use Rattle.connection.specs.Abstract.{absOf, Valid}
@@ -180,7 +180,7 @@ module _ (c : Connection) (t l p sent : List ℕ) where
         let room : count ≤ length bytes = omega arith in
         let f = k .steps (all-right v w) v in
         let same = asked-same (e .now) slot count room v in
-        let counted = ap countOf (f .says .value) ∙ read-counts (absOf c t l p) (e .now) (slotOf slot) (length (take count bytes)) in
+        let counted = read-counted c t l p (e .now) (slotOf slot) (length (take count bytes)) d t′ l′ p f in
         rw q (record {
           follows = subst (λ (r : Result). Follows c t l p r d t′ l′ p) same f;
           header = o .header;

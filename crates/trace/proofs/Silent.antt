@@ -35,6 +35,7 @@ use Rattle.rules.specs.Frames.{Acked, ackStep, isKnown, answersPing, bodyLength
 use Rattle.rules.specs.Calls.{openAt, open-rules, writeWith, writeRules, closeRules, dropAt, dropRules, pingOut, tickRules}
 use Rattle.rules.specs.Step.{onDecoded, step, timed, live, holding}
 use Rattle.rules.specs.Step as rules
+use Rattle.rules.proofs.Lists.{either}
 
 -- no bytes are given
 pub record Silent (r : Result) : Type 0 where
@@ -43,11 +44,6 @@ pub record Silent (r : Result) : Type 0 where
 -- no header is given
 pub record Headless (r : Result) : Type 0 where
   pub bare : r .outcome .header ≡ Nothing
-
--- what holds of both holds of either
-either : (P : Result → Type 0) (t : Bool) {a b : Result} → P a → P b → P (cond t a b)
-either P true a b = a
-either P false a b = b
 
 -- ---- frames
 

@@ -55,7 +55,7 @@ enum Turned {
 }
 
 // The most bytes that an event reads.
-const SCRATCH: usize = 16384;
+pub const SCRATCH: usize = 16384;
 
 // Whether all that is lent has its size.
 fn sized(c: Connection, table: usize, links: usize, pool: usize, sent: usize, bytes: usize) -> bool

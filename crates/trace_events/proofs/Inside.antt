@@ -8,6 +8,7 @@ use native.Mathlib.Omega.{arith}
 use lib.ListN.{length, getD}
 use lib.Dec.{eqb, ltb, leb}
 use borrow.Author.Tests.{ltb-true, ltb-false, leb-true, leb-false}
+use Rattle.rules.proofs.Lists.{either}
 use Rattle.trace_events.specs.Numbers.{groups, numberAt}
 use Rattle.trace_events.specs.Format.{after, whole, bounded, lengthAt, eventOf, frameAt, bytesAt, countAt, slotAt, restAt, timeAt, eventAt}
 use Rattle.trace_events.specs.Calls.{longest, Spans, Within}
@@ -28,10 +29,6 @@ widen s at k (number.Value v p) h = omega arith
 widen s at k number.Short h = omega arith
 widen s at k number.Bad h = tt
 
-picked : (P : Number → Type 0) (t : Bool) {a b : Number} → P a → P b → P (cond t a b)
-picked P true a b = a
-picked P false a b = b
-
 pub groups-in : (k : ℕ) (s : List ℕ) (at w v : ℕ) → NumberIn s at k (groups k s at w v)
 unfolding groups
 groups-in zero s at w v = tt
@@ -41,8 +38,8 @@ groups-in (suc k) s at w v = go (ltb at (length s)) refl (groups-in k s (at + 1)
     go true q ih =
         let h : at < length s = ltb-true _ _ q in
         rw q
-        (picked (NumberIn s at (suc k)) (ltb (v + getD s at 0 % 128 * w) (2 ^ 64))
-        (picked (NumberIn s at (suc k)) (ltb (getD s at 0) 128) (omega arith, omega arith, omega arith) (widen s at k (groups k s (at + 1) (w * 128) (v + getD s at 0 % 128 * w)) ih))
+        (either (NumberIn s at (suc k)) (ltb (v + getD s at 0 % 128 * w) (2 ^ 64))
+        (either (NumberIn s at (suc k)) (ltb (getD s at 0) 128) (omega arith, omega arith, omega arith) (widen s at k (groups k s (at + 1) (w * 128) (v + getD s at 0 % 128 * w)) ih))
         tt)
     go false q ih = let h : length s ≤ at = ltb-false _ _ q in rw q (omega arith)
 

@@ -39,7 +39,7 @@ use Rattle.filter.specs.declared.Work.the-variants.{Whole, Unread, Unwritten, U
 use Rattle.filter.specs.declared.Got.{Got}
 use Rattle.filter.specs.declared.Got.the-variants.{More, End, Failed}
 use Rattle.trace_play.specs.Places.{nextTask, placeOf, afterRun, moved}
-use Rattle.trace_play.specs.Plays.{Wrote, Took, putting, over, Closed, broken, last, GoesOn, Lent, lent, Played, Plays, none, more, Performed, unread, unreached, played, isEnded}
+use Rattle.trace_play.specs.Plays.{Wrote, Took, putting, over, Closed, broken, last, GoesOn, Lent, lent, Played, Plays, none, more, Performed, unread, unreached, played, isEnded, Lasts}
 use Rattle.trace_play.specs.declared.State.{State}
 use Rattle.trace_play.proofs.Nearing.{kept-length}
 
@@ -66,17 +66,6 @@ pub record Stands (a : Account) (s : State) (m : Lent) : Type 0 where
   pub have : s .standing .have ≤ length (m .input)
   pub put : s .standing .put ≤ length (m .room)
   pub owes : (next : List ℕ) → output (a .brought ++ next) ≡ a .put ++ (take (s .standing .put) (m .room) ++ remaining (s .applied) (conn s m) (rest s m ++ next))
-
--- The last line of a text stands at the room's start: one of a run that is over, for a run that stopped for room has none.
-pub record Lasts (text room : List ℕ) : Type 0 where
-  pub front : List ℕ
-  pub why : Stop
-  pub left : ℕ
-  pub applied : ℕ
-  pub growth : ℕ
-  pub over : IsLast [] why
-  pub is : text ≡ front ++ lastLine why left applied growth
-  pub there : Prefix (lastLine why left applied growth) room
 
 -- What was put is the start of what is printed for all that was brought; and all of it where all is done and every read and write did its
 -- work, whatever comes after where the input has not ended: then the room holds the last line.

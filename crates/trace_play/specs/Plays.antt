@@ -1,7 +1,7 @@
 -- What the program does, turn by turn, with the account of its reads and writes.
 use mathlib.Core.Path.{_≡_}
 use mathlib.Core.Bool.{Bool, true, false}
-use mathlib.Core.List.{List}
+use mathlib.Core.List.{List, [], _++_}
 use Prim.Native.Nat.{ℕ, _-_, _≤_}
 use lib.ListN.{length, take}
 use Rattle.rules.specs.Settings.{checked}
@@ -13,14 +13,14 @@ use Rattle.connection.specs.Abstract.{absOf, Valid}
 use Rattle.connection.specs.declared.Connection.{Connection}
 use Rattle.connection_open.specs.Start.{sized}
 use Rattle.trace_events.specs.Format.{settingsAt}
-use Rattle.trace.specs.Output.{begunAs, lastLine, allowance}
+use Rattle.trace.specs.Output.{begunAs, lastLine, allowance, IsLast}
 use Rattle.trace.specs.Turns.{Runs}
 use Rattle.trace.specs.declared.Stop.{Stop}
 use Rattle.trace.specs.declared.Report.{Report}
 use Rattle.trace.specs.declared.ends.Sizes.{Sizes}
 use Rattle.trace.specs.declared.ends.Begun.the-variants as begun
 use Rattle.filter.specs.Parts.{holding, Flushed, Fed}
-use Rattle.filter.specs.Account.{Account, nothing, reads, then}
+use Rattle.filter.specs.Account.{Account, nothing, reads, then, Prefix}
 use Rattle.filter.specs.declared.Standing.{Standing}
 use Rattle.filter.specs.declared.Work.{Work}
 use Rattle.filter.specs.declared.Work.the-variants.{Whole, Unread, Unlent}
@@ -164,3 +164,14 @@ Performs m r m′ = (b : Account) × Performed m b r m′
 abbrev pub Replays : Bool → Lent → Work → Lent → Type 0
 Replays true m r m′ = Performs m r m′
 Replays false m r m′ = (r ≡ Unlent) × (m′ ≡ m)
+
+-- The last line of a text stands at the room's start: one of a run that is over, for a run that stopped for room has none.
+pub record Lasts (text room : List ℕ) : Type 0 where
+  pub front : List ℕ
+  pub why : Stop
+  pub left : ℕ
+  pub applied : ℕ
+  pub growth : ℕ
+  pub over : IsLast [] why
+  pub is : text ≡ front ++ lastLine why left applied growth
+  pub there : Prefix (lastLine why left applied growth) room

@@ -17,15 +17,16 @@ use rules::Settings;
 use trace::Begun;
 use trace::Place;
 use trace::Report;
+use trace::SCRATCH;
 use trace::Stop;
 use trace_lines::LONGEST_LINE;
 use trace_lines::Put;
 
 // The connection, the events applied, and where the program stands in its input and its output.
 struct State {
-    pub connection: Connection,
-    pub applied: u64,
-    pub standing: Standing,
+    connection: Connection,
+    applied: u64,
+    standing: Standing,
 }
 
 // What follows a run.
@@ -46,8 +47,6 @@ const TABLE: usize = 2700;
 const LINKS: usize = 616;
 
 const POOL: usize = 630784;
-
-const LONGEST_READ: usize = 16384;
 
 const LONGEST_EVENT: usize = 16424;
 
@@ -282,6 +281,7 @@ fn start(
             };
             play(state, table, links, pool, sent, bytes, src, out)
         }
+        // Never: settings and sizes are right.
         Created::Wrong(_) => Work::Unread,
         Created::Size => Work::Unread,
     }
@@ -358,7 +358,7 @@ fn sized_for(
     if sent != HEADER_SIZE {
         return false;
     }
-    bytes == LONGEST_READ
+    bytes == SCRATCH
 }
 
 // Plays standard input in lent memory, which is judged first. Returns the work that reads and writes did.
