@@ -1,14 +1,13 @@
 -- A connection made in memory that is laid out anew is valid, and in the rules' initial state. Assumes nothing.
 use mathlib.Core.Path.{_≡_, refl, sym, ap, _∙_}
-use mathlib.Core.Bool.{Bool, true, false}
+use mathlib.Core.Bool.{Bool, true, false, cond}
 use mathlib.Core.List.{List}
-use Prim.Native.Nat.{ℕ, zero, suc, _*_}
+use Prim.Native.Nat.{ℕ, zero, suc}
 use native.Mathlib.Omega.{arith}
 use borrow.Author.Tests.{leb-true}
 use lib.Dec.{leb}
 use lib.ListN.{length, replicate}
-use Rattle.frame.specs.Header.{initialWindow}
-use Rattle.rules.specs.Settings.{lastTime, within, require, configOf, checkedLast, checked}
+use Rattle.rules.specs.Settings.{within, configOf, holds, settingNumber, permitted, checked}
 use Rattle.rules.specs.State.{Entry, entry, vacant, firstOwn, isOwn}
 use Rattle.rules.specs.declared.Settings.{Settings}
 use Rattle.rules.specs.declared.Setting.{Setting}
@@ -21,42 +20,26 @@ use Rattle.rules.specs.declared.Mode.the-variants.{Client, Server}
 use Rattle.memory.specs.Moves.{Starts}
 use Rattle.memory.specs.Slots.{slotsOf, Sized}
 use Rattle.memory.specs.declared.Memory.{Memory}
-use Rattle.rules.proofs.Lists.{both}
+use Rattle.rules.proofs.Judging.{numbers-beyond, all-hold, wrong-named, none-named}
+use Rattle.rules.proofs.Lists.{both, split}
 use Rattle.memory.proofs.Laws.{never, fits-sized}
 use Rattle.connection.specs.Abstract.{absOf, Fresh}
-use Rattle.connection_open.specs.Start.{sized, started, Begins, Ranged, Lays, Creates}
+use Rattle.connection_open.specs.Start.{number, sized, started, Begins, Ranged, Lays, Creates, Numbers}
 use Rattle.connection_open.specs.declared.Created.{Created}
 use Rattle.connection_open.specs.declared.Created.the-variants.{Made, Wrong, Size}
 
 -- ---- accepted settings are in range
 
-passed : (b : Bool) (w : Setting) (next : Checked) (k : Config) → require b w next ≡ settings.Fine k → (b ≡ true) × (next ≡ settings.Fine k)
-passed true w next k e = (refl, e)
-passed false w next k e = never (let z : true ≡ false = cc in z)
-
-last-ranged : (s : Settings) (k : Config) → checkedLast s ≡ settings.Fine k → Ranged k
-last-ranged s k e =
-    let a = passed (leb (s .«first_time») lastTime) setting.FirstTime _ k e in
-    let b = passed (leb (s .«first_id») 4294967295) setting.FirstId _ k (a .1) in
-    let n = passed (within 1 1024 (s .slots)) setting.Slots _ k (b .1) in
-    let m = passed (leb (s .«max_num_streams») (s .slots)) setting.Slots _ k (n .1) in
-    let p = passed (leb (s .pool) 4294967295) setting.Pool _ k (m .1) in
+pub fine-ranged : (s : Settings) (k : Config) → checked s ≡ settings.Fine k → Ranged k
+fine-ranged s k e =
+    let ok = all-hold permitted s k e in
+    let n = both (within 1 1024 (s .slots)) _ (ok .0 setting.Slots) in
     let w = both (leb 1 (s .slots)) (leb (s .slots) 1024) (n .0) in
+    let p = both (leb (s .pool) 4294967295) _ (ok .0 setting.Pool) in
     let low = leb-true 1 (s .slots) (w .0) in
     let high = leb-true (s .slots) 1024 (w .1) in
     let pool = leb-true (s .pool) 4294967295 (p .0) in
-    let same : configOf s ≡ k = cc in
-    rw (sym same) (record { some = low; most = high; pooled = omega arith })
-
-pub fine-ranged : (s : Settings) (k : Config) → checked s ≡ settings.Fine k → Ranged k
-fine-ranged s k e =
-    let a = passed (leb (s .mode) 1) setting.Mode _ k e in
-    let b = passed (leb (s .«max_num_streams») 512) setting.Streams _ k (a .1) in
-    let d = passed (leb (s .«max_num_streams» * initialWindow) (s .limit)) setting.Limit _ k (b .1) in
-    let f = passed (leb (s .«read_after_close») 1) setting.ReadAfterClose _ k (d .1) in
-    let g = passed (within 1 4294967295 (s .split)) setting.Split _ k (f .1) in
-    let h = passed (within 1 lastTime (s .interval)) setting.Interval _ k (g .1) in
-    last-ranged s k (h .1)
+    rw (ok .1) (record { some = low; most = high; pooled = omega arith })
 
 -- ---- nothing is in the table yet
 
@@ -122,4 +105,32 @@ module _ (s : Settings) (t l p : List ℕ) where
     sizes = λ x h b. let z : x ≡ k = cc in d .sizes (rw (sym z) b);
     made = λ x h b. let z : x ≡ k = cc in rw z (d .made (rw (sym z) b) (fine-ranged s k e));
     pool = d .pool;
+  }
+
+-- ---- the number
+
+module _ (s : Settings) (t l p : List ℕ) (r : Created) (t′ l′ p′ : List ℕ) (k : Creates s t l p r t′ l′ p′) where
+  made-number : (c : Config) (x : Created) → Begins c x t′ l′ p′ → number x ≡ 0
+  made-number c (Made d) b = refl
+  made-number c (Wrong w) b = absurd b
+  made-number c Size b = absurd b
+
+  sizes-number : ((w : Setting) → holds permitted s w ≡ true) → number r ≡ cond (sized (configOf s) (length t) (length l) (length p)) 0 14
+  sizes-number h =
+      let e = none-named permitted s h in
+      split (λ n. number r ≡ n) (sized (configOf s) (length t) (length l) (length p)) (λ b. made-number _ r (k .made _ e b)) (λ b. ap number (k .sizes _ e b .0))
+
+  all-held : number r ≡ 14 → (c : Checked) → checked s ≡ c → (w : Setting) → holds permitted s w ≡ true
+  all-held n (settings.Wrong v) e = let q : settingNumber v ≡ 14 = sym (ap number (k .wrong v e .0)) ∙ n in absurd (omega (arith, q, numbers-beyond v .0))
+  all-held n (settings.Fine c) e = all-hold permitted s c e .0
+
+  only-size : (b : Bool) → _≡_ {A = ℕ} (cond b 0 14) 14 → b ≡ false
+  only-size true e = absurd (omega (arith, e))
+  only-size false e = refl
+
+  pub new-numbers : Numbers s t l p r
+  new-numbers = record {
+    wrong = λ w f. ap number (k .wrong w (wrong-named permitted s w f) .0);
+    fine = sizes-number;
+    size = λ n. let h = all-held n (checked s) refl in (h, only-size (sized (configOf s) (length t) (length l) (length p)) (sym (sizes-number h) ∙ n));
   }

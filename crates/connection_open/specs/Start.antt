@@ -1,11 +1,11 @@
 -- A new connection. Sentences are document 01's.
 use mathlib.Core.Path.{_≡_}
-use mathlib.Core.Bool.{Bool, true, false}
+use mathlib.Core.Bool.{Bool, true, false, cond}
 use mathlib.Core.List.{List}
 use Prim.Native.Nat.{ℕ, _≤_, _<_, _^_}
 use lib.ListN.{length}
 use Rattle.rtt.specs.Pings.{start}
-use Rattle.rules.specs.Settings.{checked}
+use Rattle.rules.specs.Settings.{configOf, holds, settingNumber, permitted, checked, FirstWrong}
 use Rattle.rules.specs.State.{firstOwn, initial}
 use Rattle.rules.specs.declared.Settings.{Settings}
 use Rattle.rules.specs.declared.Setting.{Setting}
@@ -18,10 +18,10 @@ use Rattle.connection.specs.declared.Connection.{Connection}
 use Rattle.connection_open.specs.declared.Created.{Created}
 use Rattle.connection_open.specs.declared.Created.the-variants.{Made, Wrong, Size}
 
--- 0 is done; 14: "settings; or a lent table, pool or header of the wrong size"
+-- 0 is done; M-100: "for settings, 14 becomes 21 to 30"; 14: "a lent table, pool or header of the wrong size"
 abbrev pub number : Created → ℕ
 number (Made c) = 0
-number (Wrong s) = 14
+number (Wrong w) = settingNumber w
 number Size = 14
 
 -- whether lent slices of these lengths have the sizes for K slots and P bytes
@@ -74,3 +74,10 @@ pub record Creates (s : Settings) (t l p : List ℕ) (r : Created) (t′ l′ p�
   pub sizes : (k : Config) → checked s ≡ settings.Fine k → sized k (length t) (length l) (length p) ≡ false → (r ≡ Size) × (t′ ≡ t) × (l′ ≡ l)
   pub made : (k : Config) → checked s ≡ settings.Fine k → sized k (length t) (length l) (length p) ≡ true → Begins k r t′ l′ p′
   pub pool : p′ ≡ p
+
+-- What the contract says of the number (proved), from any ten numbers: the least one whose test fails, whatever is lent; where every test
+-- holds, 14 at a wrong size and else 0. So 14 is left for lent memory alone.
+pub record Numbers (s : Settings) (t l p : List ℕ) (r : Created) : Type 0 where
+  pub wrong : (w : Setting) → FirstWrong (holds permitted s) w → number r ≡ settingNumber w
+  pub fine : ((w : Setting) → holds permitted s w ≡ true) → number r ≡ cond (sized (configOf s) (length t) (length l) (length p)) 0 14
+  pub size : number r ≡ 14 → ((w : Setting) → holds permitted s w ≡ true) × (sized (configOf s) (length t) (length l) (length p) ≡ false)

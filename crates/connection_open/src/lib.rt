@@ -20,7 +20,7 @@ use rules::Mode;
 use rules::Setting;
 use rules::Settings;
 
-// A new connection, or why there is none: a setting out of range, or lent memory of the wrong size.
+// A new connection, or why there is none: the first wrong setting, or lent memory of the wrong size.
 pub enum Created {
     Made(Connection),
     Wrong(Setting),
@@ -34,7 +34,7 @@ impl Created {
     {
         match self {
             Created::Made(_) => 0,
-            Created::Wrong(_) => 14,
+            Created::Wrong(setting) => setting.number(),
             Created::Size => 14,
         }
     }

@@ -1,13 +1,12 @@
 -- Every call keeps the invariant, and a new connection has it. Assumes nothing.
 use mathlib.Core.Path.{_≡_, refl, sym, ap, subst}
-use mathlib.Core.Bool.{Bool, true, false}
+use mathlib.Core.Bool.{true, false}
 use mathlib.Core.List.{List, [], _∷_}
-use Prim.Native.Nat.{ℕ, _*_, _≤_}
+use Prim.Native.Nat.{ℕ, _≤_}
 use native.Mathlib.Omega.{arith}
 use lib.ListN.{length, replicate, length-replicate}
 use lib.Dec.{ltb, leb}
 use borrow.Author.Tests.{leb-true}
-use Rattle.frame.specs.Header.{initialWindow}
 use Rattle.frame.specs.Wire.{decoded}
 use Rattle.frame.specs.declared.header.Decoded.{Decoded}
 use Rattle.frame.specs.declared.header.Decoded.the-variants as found
@@ -15,12 +14,10 @@ use Rattle.rules.specs.declared.Settings.{Settings}
 use Rattle.rules.specs.declared.Config.{Config}
 use Rattle.rules.specs.declared.Mode.{Mode}
 use Rattle.rules.specs.declared.Mode.the-variants.{Client, Server}
-use Rattle.rules.specs.declared.Setting.{Setting}
 use Rattle.rules.specs.declared.Setting.the-variants as setting
-use Rattle.rules.specs.declared.Checked.{Checked}
 use Rattle.rules.specs.declared.Checked.the-variants.{Fine}
 use Rattle.rules.specs.declared.Reply.the-variants as reply
-use Rattle.rules.specs.Settings.{checked, configOf, require, within, lastTime}
+use Rattle.rules.specs.Settings.{within, lastTime, permitted, checked}
 use Rattle.rules.specs.State.{Entry, Conn, vacant, entry, one, initial, firstOwn}
 use Rattle.rules.specs.Ending.{Result, refuse}
 use Rattle.rules.specs.Calls.{growthOf}
@@ -29,8 +26,8 @@ use Rattle.rules.specs.Step as rules
 use Rattle.demands.specs.Demands.{Reach, new, then}
 use Rattle.demands.specs.Handles.{about, aboutDecoded}
 use Rattle.demands.specs.History.{Event, nothing, gaveOut, event, byFrame}
-use Rattle.rules.proofs.Lists.{both}
-use Rattle.rules.proofs.Lists.{split}
+use Rattle.rules.proofs.Judging.{all-hold}
+use Rattle.rules.proofs.Lists.{both, split}
 use Rattle.demands.proofs.Lists.{true-not-false, getD-same, sum-none}
 use Rattle.demands.proofs.Invariant.{Allowed, Inv, vacant-good}
 use Rattle.demands.proofs.Sound.{Sound, left, same-put, bytesOf, refused, ends}
@@ -87,43 +84,29 @@ module _ (c : Conn) (v : Inv c) where
 
 -- ---- a new connection
 
-fine : (b : Bool) (s : Setting) (next : Checked) (c : Config) → require b s next ≡ Fine c → (b ≡ true) × (next ≡ Fine c)
-fine true s next c e = (refl, e)
-fine false s next c e = let z : true ≡ false = cc in true-not-false refl z
-
-fine-is : (c d : Config) → Fine c ≡ Fine d → c ≡ d
-fine-is c d e = cc
-
 -- settings that are accepted are allowed, and the connection has them as they are
 accepted-settings : (s : Settings) (c : Config) → checked s ≡ Fine c → Allowed c
 accepted-settings s c e =
-    let a = fine (leb (s .mode) 1) setting.Mode _ c e in
-    let m = fine (leb (s .«max_num_streams») 512) setting.Streams _ c (a .1) in
-    let l = fine (leb (s .«max_num_streams» * initialWindow) (s .limit)) setting.Limit _ c (m .1) in
-    let r = fine (leb (s .«read_after_close») 1) setting.ReadAfterClose _ c (l .1) in
-    let p = fine (within 1 4294967295 (s .split)) setting.Split _ c (r .1) in
-    let t = fine (within 1 lastTime (s .interval)) setting.Interval _ c (p .1) in
-    let first = fine (leb (s .«first_time») lastTime) setting.FirstTime _ c (t .1) in
-    let id = fine (leb (s .«first_id») 4294967295) setting.FirstId _ c (first .1) in
-    let k = fine (within 1 1024 (s .slots)) setting.Slots _ c (id .1) in
-    let n = fine (leb (s .«max_num_streams») (s .slots)) setting.Slots _ c (k .1) in
-    let q = fine (leb (s .pool) 4294967295) setting.Pool _ c (n .1) in
+    let ok = all-hold permitted s c e in
+    let part = both (leb 1 (s .split)) (leb (s .split) 4294967295) (ok .0 setting.Split) in
+    let each = both (leb 1 (s .interval)) (leb (s .interval) lastTime) (ok .0 setting.Interval) in
+    let k = both (within 1 1024 (s .slots)) _ (ok .0 setting.Slots) in
     let w = both (leb 1 (s .slots)) (leb (s .slots) 1024) (k .0) in
-    let part = both (leb 1 (s .split)) (leb (s .split) 4294967295) (p .0) in
-    let each = both (leb 1 (s .interval)) (leb (s .interval) lastTime) (t .0) in
-    subst Allowed (fine-is (configOf s) c (q .1)) (record {
-      streams = leb-true _ _ (m .0);
-      least = leb-true _ _ (l .0);
+    let n = both (leb (s .«max_num_streams») (s .slots)) _ (k .1) in
+    let p = both (leb (s .pool) 4294967295) _ (ok .0 setting.Pool) in
+    subst Allowed (sym (ok .1)) (record {
+      streams = leb-true _ _ (ok .0 setting.Streams);
+      least = leb-true _ _ (ok .0 setting.Limit);
       splits = leb-true _ _ (part .0);
       split = leb-true _ _ (part .1);
       intervals = leb-true _ _ (each .0);
       interval = leb-true _ _ (each .1);
-      first-time = leb-true _ _ (first .0);
-      first-id = leb-true _ _ (id .0);
+      first-time = leb-true _ _ (ok .0 setting.FirstTime);
+      first-id = leb-true _ _ (ok .0 setting.FirstId);
       some = leb-true _ _ (w .0);
       many = leb-true _ _ (w .1);
       enough = leb-true _ _ (n .0);
-      pool = leb-true _ _ (q .0);
+      pool = leb-true _ _ (p .0);
     })
 
 first-low : (m : Mode) → firstOwn m ≤ 4294967295

@@ -2,7 +2,7 @@
 use mathlib.Core.Path.{_≡_, refl, sym, ap, _∙_}
 use mathlib.Core.Bool.{Bool, true, false}
 use mathlib.Core.List.{List, [], _∷_, _++_}
-use Prim.Native.Nat.{ℕ, _-_}
+use Prim.Native.Nat.{ℕ, _-_, _<_}
 use native.Mathlib.Omega.{arith}
 use lib.ListN.{length, take, drop}
 use Rattle.rules.specs.Settings.{checked}
@@ -12,6 +12,7 @@ use Rattle.rules.specs.Replies.{countOf}
 use Rattle.rules.specs.State.{Conn}
 use Rattle.rules.specs.Step.{Call, step, run, frame, read}
 use Rattle.rules.specs.declared.Settings.{Settings}
+use Rattle.rules.proofs.Judging.{numbers-beyond}
 use Rattle.connection.proofs.Promises.{read-counted}
 use Rattle.rules.specs.declared.Checked.{Checked}
 use Rattle.rules.specs.declared.Checked.the-variants as settings
@@ -43,18 +44,18 @@ pub record Holds (c : Connection) (t l p : List ℕ) (h : ℕ → Heard) (b : �
   pub kept : Books (absOf c t l p) b
 
 -- what was made was not refused
-unmade : {A : Type 0} (c : Connection) (r : Created) → Made c ≡ r → number r ≡ 14 → A
-unmade c r e n = absurd (let z : _≡_ {A = ℕ} 0 14 = ap number e ∙ n in omega arith)
+unmade : {A : Type 0} (c : Connection) (r : Created) → Made c ≡ r → 0 < number r → A
+unmade c r e n = absurd (omega (arith, ap number e, n))
 
 -- a connection is made of settings that are in range
 begins : (s : Settings) (t l p : List ℕ) (c : Connection) (t′ l′ p′ : List ℕ) → Creates s t l p (Made c) t′ l′ p′
     → (x : Checked) → checked s ≡ x → Holds c t′ l′ p′ (λ i. story.unheard) (λ i. books.blank)
-begins s t l p c t′ l′ p′ m (settings.Wrong w) e = unmade c (Wrong w) (m .wrong w e .0) refl
+begins s t l p c t′ l′ p′ m (settings.Wrong w) e = unmade c (Wrong w) (m .wrong w e .0) (omega (arith, numbers-beyond w .0))
 begins s t l p c t′ l′ p′ m (settings.Fine k) e = go (sized k (length t) (length l) (length p)) refl
   where
     go : (b : Bool) → sized k (length t) (length l) (length p) ≡ b → Holds c t′ l′ p′ (λ i. story.unheard) (λ i. books.blank)
     go true q = let n = m .made k e q in record { valid = n .0; told = rw (n .1) (story.new s e); kept = rw (n .1) (books.new s e) }
-    go false q = unmade c Size (m .sizes k e q .0) refl
+    go false q = unmade c Size (m .sizes k e q .0) (omega arith)
 
 -- a history and accounts go on over any calls
 goes-on : {c : Conn} {h : ℕ → Heard} → Story c h → (ks : List Call) → Story (run c ks .after) (heardOver c ks h)

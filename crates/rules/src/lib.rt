@@ -1,7 +1,8 @@
 // The connection's settings, calls and replies: what the rules of document 01 speak of.
 ghost use mathlib.Core.Path.{_≡_};
 ghost use Prim.Native.Nat.{_≤_};
-ghost use Rattle.rules.specs.Settings.{checked, checkedLast, configOf, modeOf};
+ghost use Rattle.rules.specs.Settings.{checked, checkedWithin, configOf, holds, judged, lastFour, modeOf, settingNumber};
+ghost use Rattle.rules.specs.declared.Checked.the-variants.{Fine};
 ghost use Rattle.rules.specs.Replies.{number, countOf};
 use frame::header::DEFAULT_CREDIT;
 
@@ -36,6 +37,12 @@ pub struct Config {
     pub first_id: u32,
     pub slots: u32,
     pub pool: u32,
+}
+
+// The most slots and bytes of pool that a program permits, beside the bounds of every connection.
+pub struct Most {
+    pub slots: u64,
+    pub pool: u64,
 }
 
 // The settings in the order in which they are read.
@@ -105,6 +112,9 @@ pub const LAST_TIME: u64 = 4611686018427387903;
 // The largest number of 32 bits.
 const TOP: u64 = u32::MAX as u64;
 
+// As many slots as a connection may have.
+const MOST_SLOTS: u64 = 1024;
+
 fn mode_of(n: u64) -> Mode
     ensures { λ r. ⌜ r ≡ modeOf n ⌝ }
 {
@@ -112,9 +122,20 @@ fn mode_of(n: u64) -> Mode
 }
 
 impl Settings {
-    // The settings as they are used, or the first of them that is out of range.
+    // The settings as they are used, or the first of them, in the order in which they are read, that is wrong.
     pub fn check(self) -> Checked
         ensures { λ r. ⌜ r ≡ checked self ⌝ }
+    {
+        let most = Most {
+            slots: MOST_SLOTS,
+            pool: TOP,
+        };
+        self.check_within(most)
+    }
+
+    // The same, of a program that permits no more than this.
+    pub fn check_within(self, most: Most) -> Checked
+        ensures { λ r. ⌜ r ≡ checkedWithin most self ⌝ }
     {
         if 1 < self.mode {
             return Checked::Wrong(Setting::Mode);
@@ -140,7 +161,7 @@ impl Settings {
         if LAST_TIME < self.interval {
             return Checked::Wrong(Setting::Interval);
         }
-        self.check_last()
+        self.check_last(most)
     }
 
     // The settings as the connection uses them.
@@ -163,10 +184,12 @@ impl Settings {
         }
     }
 
-    fn check_last(self) -> Checked
+    fn check_last(self, most: Most) -> Checked
         requires { ⌜ (self .«max_num_streams» ≤ 512) × (self .split ≤ 4294967295) ⌝ }
-        ensures { λ r. ⌜ r ≡ checkedLast self ⌝ }
+        ensures { λ r. ⌜ r ≡ judged (holds most self) lastFour (Fine (configOf self)) ⌝ }
     {
+        let slots = most.slots;
+        let pool = most.pool;
         if LAST_TIME < self.first_time {
             return Checked::Wrong(Setting::FirstTime);
         }
@@ -176,16 +199,42 @@ impl Settings {
         if self.slots < 1 {
             return Checked::Wrong(Setting::Slots);
         }
-        if 1024 < self.slots {
+        if MOST_SLOTS < self.slots {
             return Checked::Wrong(Setting::Slots);
         }
         if self.slots < self.max_num_streams {
             return Checked::Wrong(Setting::Slots);
         }
+        if slots < self.slots {
+            return Checked::Wrong(Setting::Slots);
+        }
         if TOP < self.pool {
             return Checked::Wrong(Setting::Pool);
         }
+        if pool < self.pool {
+            return Checked::Wrong(Setting::Pool);
+        }
         Checked::Fine(self.config())
+    }
+}
+
+impl Setting {
+    // The number of the reply where this setting is the first wrong one.
+    pub fn number(self) -> u32
+        ensures { λ r. ⌜ r ≡ settingNumber self ⌝ }
+    {
+        match self {
+            Setting::Mode => 21,
+            Setting::Streams => 22,
+            Setting::Limit => 23,
+            Setting::ReadAfterClose => 24,
+            Setting::Split => 25,
+            Setting::Interval => 26,
+            Setting::FirstTime => 27,
+            Setting::FirstId => 28,
+            Setting::Slots => 29,
+            Setting::Pool => 30,
+        }
     }
 }
 

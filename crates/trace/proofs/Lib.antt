@@ -9,3 +9,4 @@ pub mod Running
 pub mod Whole
 pub mod Remaining
 pub mod Unique
+pub mod Examples

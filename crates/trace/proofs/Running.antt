@@ -85,6 +85,7 @@ module _ (c : Connection) (t l p s o : List ℕ) (place : Place) (allowance : �
   unmoved = record {
     counted = omega arith;
     forward = omega arith;
+    reach = omega arith;
     inside = λ h. h;
     written = omega arith;
     room = λ h. h;
@@ -158,6 +159,7 @@ module _ (c : Connection) (t l p s o : List ℕ) (place : Place) (allowance : �
         bounds = record {
           counted = omega (arith, x .bounds .counted);
           forward = omega (arith, x .bounds .forward, k .forward);
+          reach = omega (arith, x .bounds .counted, x .bounds .reach, k .reach);
           inside = λ w. k .inside;
           written = omega (arith, x .bounds .written, k .written);
           room = λ w. omega (arith, k .room, x .size);
@@ -173,7 +175,7 @@ module _ (c : Connection) (t l p s o : List ℕ) (place : Place) (allowance : �
 -- ---- the answers of a run
 
 module _ (sz : Bool) (c : Connection) (t l p sent bytes s o : List ℕ) (place : Place) (allowance : ℕ) where
-  pub unsized-runs : sz ≡ false → Runs sz c t l p s o place allowance (record { connection = c; place = place; stop = stop.Refused }) t l p o
+  pub unsized-runs : sz ≡ false → Runs sz c t l p s o place allowance (record { connection = c; place = place; stop = stop.Size }) t l p o
   unsized-runs e = record {
     steps = λ r. never (sym r ∙ e);
     wrong = λ w. (refl, refl, refl, refl, refl);

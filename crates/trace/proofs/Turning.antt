@@ -28,7 +28,6 @@ use Rattle.trace_lines.specs.Writing.{Stores, longestLine}
 use Rattle.trace.specs.Runs.{Room, only, headerBytes, eventLine, stopped, wrote, runs}
 use Rattle.trace.specs.Applies.{bytesRead, Applies}
 use Rattle.trace.specs.Turns.{headerSize, shownLine, Goes}
-use Rattle.trace.specs.declared.Stop.{Stop}
 use Rattle.trace.specs.declared.Stop.the-variants as stop
 
 -- ---- no event
@@ -96,6 +95,7 @@ module _ (c : Connection) (t l p sent s : List ℕ) (at number : ℕ) (o : List 
   pub goes : Goes c t l p s at number o put (d .connection) (e .next) end t′ l′ p′ o′
   goes = record {
     forward = lies s at e h .0 .0;
+    reach = lies s at e h .0 .2;
     inside = lies s at e h .0 .1;
     written = omega (arith, written .next);
     room = inside;

@@ -1,29 +1,33 @@
 -- What is printed for a whole input, from its first part on: the first hundred bytes decide its settings, and whatever parts follow,
 -- its lines and its last line are those of the runs over them. Assumes nothing.
-use mathlib.Core.Path.{_≡_, sym, ap, subst, _∙_}
+use mathlib.Core.Path.{_≡_, refl, sym, ap, subst, _∙_}
 use mathlib.Core.Logic.{inl, inr}
-use mathlib.Core.Bool.{true, false}
-use mathlib.Core.List.{List, _++_}
-use Prim.Native.Nat.{ℕ, _+_, _-_, _≤_, _<_}
+use mathlib.Core.List.{List, [], _∷_, _++_, append-nil}
+use Prim.Native.Nat.{ℕ, zero, suc, _+_, _-_, _≤_, _<_}
+use native.Mathlib.Nat.{add-zero}
 use native.Mathlib.Omega.{arith}
-use lib.ListN.{length, drop, length-append, length-drop}
+use lib.ListN.{length, drop, length-append}
 use lib.Seq.{drop-append-le}
-use Rattle.rules.specs.Settings.{checked}
-use Rattle.rules.specs.State.{initial}
+use borrow.Author.Tests.{lt-ltb}
+use Rattle.rules.proofs.Lists.{either}
+use Rattle.rules.specs.Settings.{holds, settingNumber, checkedWithin, FirstWrong}
+use Rattle.rules.specs.State.{Conn, initial}
+use Rattle.rules.specs.Step.{step}
 use Rattle.rules.specs.declared.Settings.{Settings}
 use Rattle.rules.specs.declared.Config.{Config}
 use Rattle.rules.specs.declared.Setting.{Setting}
 use Rattle.rules.specs.declared.Checked.the-variants as settings
 use Rattle.trace_events.specs.Format.{settingsAt}
-use Rattle.trace_events.specs.Calls.{PreambleIn}
+use Rattle.trace_events.specs.Calls.{Found, call, short, bad, callAt, PreambleIn}
 use Rattle.trace_events.specs.declared.Preamble.{Preamble}
 use Rattle.trace_events.specs.declared.Preamble.the-variants as preamble
 use Rattle.trace_events.proofs.More.{Settles}
 use Rattle.trace_events.proofs.Settings.{settings-more, settings-in}
 use Rattle.trace_lines.specs.Line.{badLine, configLine}
-use Rattle.trace.specs.Runs.{Traced, endless, runs, shifted, Part, joined, feeds}
-use Rattle.trace.specs.Output.{isSmall, lastLine, allowance, printed, output}
-use Rattle.trace.proofs.Parts.{runs-from, in-parts}
+use Rattle.rules.proofs.Judging.{wrong-named}
+use Rattle.trace.specs.Runs.{Traced, Room, endless, isFull, less, eventLine, wrote, onFound, runs, lengths, total, Unreadable, shifted, Part, joined, feeds}
+use Rattle.trace.specs.Output.{most, lastLine, allowance, printed, output}
+use Rattle.trace.proofs.Parts.{Ahead, call-in, runs-from, in-parts}
 
 -- ---- the settings
 
@@ -46,40 +50,26 @@ settings-same a more x n e = go (settings-more a more)
 
 -- ---- no events
 
-pub cut-output : (a : List ℕ) → settingsAt a ≡ preamble.Short → output a ≡ badLine 0
+pub cut-output : (a : List ℕ) → settingsAt a ≡ preamble.Short → output a ≡ badLine 0 0
 cut-output a e = rw e
 
 module _ (a more : List ℕ) where
-  pub bad-output : settingsAt a ≡ preamble.Bad → output (a ++ more) ≡ badLine 0
+  pub bad-output : settingsAt a ≡ preamble.Bad → output (a ++ more) ≡ badLine 0 0
   bad-output e = rw (settings-same a more preamble.Bad (λ x. x) e)
 
   module _ (t : Settings) (next : ℕ) (e : settingsAt a ≡ preamble.Settings t next) where
-    pub wrong-output : (w : Setting) → checked t ≡ settings.Wrong w → output (a ++ more) ≡ configLine
-    wrong-output w f = rw (settings-same a more (preamble.Settings t next) (λ x. x) e, f)
+    -- whatever else is wrong, and whatever comes after: the number of the first wrong setting is printed, and nothing else
+    pub wrong-output : (w : Setting) → FirstWrong (holds most t) w → output (a ++ more) ≡ configLine (settingNumber w)
+    wrong-output w f = rw (settings-same a more (preamble.Settings t next) (λ x. x) e, wrong-named most t w f)
 
-    pub large-output : (k : Config) → checked t ≡ settings.Fine k → isSmall k ≡ false → output (a ++ more) ≡ configLine
-    large-output k f g = rw (settings-same a more (preamble.Settings t next) (λ x. x) e, f, g)
-
-    pub fine-output : (k : Config) → checked t ≡ settings.Fine k → isSmall k ≡ true
+    pub fine-output : (k : Config) → checkedWithin most t ≡ settings.Fine k
         → output (a ++ more) ≡ printed (runs allowance (initial k) (a ++ more) next 0 endless) (length (a ++ more))
-    fine-output k f g = rw (settings-same a more (preamble.Settings t next) (λ x. x) e, f, g)
+    fine-output k f = rw (settings-same a more (preamble.Settings t next) (λ x. x) e, f)
 
     settings-inside : next ≤ length a
     settings-inside = subst (PreambleIn a) e (settings-in a) .1
 
 -- ---- events
-
--- what is left of the input is the same by places of the whole
-printed-shifted : (m size left : ℕ) (r : Traced) → size ≡ m + left → printed (shifted m r) size ≡ printed r left
-printed-shifted m size left r e =
-    let f : size - (m + r .at) ≡ left - r .at = omega (arith, e) in
-    ap (λ (n : ℕ). r .lines ++ lastLine (r .why) n (r .applied) (r .after .growth)) f
-
-left-size : (a more : List ℕ) (next : ℕ) → next ≤ length a → length (a ++ more) ≡ next + length (drop next a ++ more)
-left-size a more next h =
-    let e : length (a ++ more) ≡ length a + length more = length-append a more in
-    let f : length (drop next a ++ more) ≡ length a - next + length more = length-append (drop next a) more ∙ ap (λ (n : ℕ). n + length more) (length-drop next a) in
-    omega (arith, e, f)
 
 -- the run over the whole, by its parts
 whole-runs : (a : List ℕ) (ps : List Part) (k : Config) (next : ℕ) → next ≤ length a
@@ -90,11 +80,55 @@ whole-runs a ps k next h =
     ∙ ap (λ (l : List ℕ). shifted next (runs allowance (initial k) l 0 0 endless)) (drop-append-le next a (joined ps) h)
     ∙ ap (shifted next) (sym (in-parts allowance (initial k) (drop next a) 0 ps))
 
--- Settings that a trace may have, and then events in parts: all that is printed is the lines of the runs and the last line.
-pub output-in-parts : (a : List ℕ) (ps : List Part) (t : Settings) (next : ℕ) (k : Config) → settingsAt a ≡ preamble.Settings t next → checked t ≡ settings.Fine k → isSmall k ≡ true
-    → output (a ++ joined ps) ≡ printed (feeds allowance (initial k) (drop next a) 0 ps) (length (drop next a ++ joined ps))
-output-in-parts a ps t next k e f g =
-    let h = settings-inside a (joined ps) t next e in
-    fine-output a (joined ps) t next e k f g
-    ∙ ap (λ (r : Traced). printed r (length (a ++ joined ps))) (whole-runs a ps k next h)
-    ∙ printed-shifted next (length (a ++ joined ps)) (length (drop next a ++ joined ps)) (feeds allowance (initial k) (drop next a) 0 ps) (left-size a (joined ps) next h)
+-- Settings that a trace may have, and then events in parts: all that is printed is the lines of the runs and the last line, with its places
+-- counted over the whole input.
+pub output-in-parts : (a : List ℕ) (ps : List Part) (t : Settings) (next : ℕ) (k : Config) → settingsAt a ≡ preamble.Settings t next → checkedWithin most t ≡ settings.Fine k
+    → output (a ++ joined ps) ≡ printed (shifted next (feeds allowance (initial k) (drop next a) 0 ps)) (length (a ++ joined ps))
+output-in-parts a ps t next k e f =
+    fine-output a (joined ps) t next e k f
+    ∙ ap (λ (r : Traced). printed r (length (a ++ joined ps))) (whole-runs a ps k next (settings-inside a (joined ps) t next e))
+
+-- ---- the failing event
+
+-- a run stops behind the events that it applied, and so by their lengths after where it started
+pub stops-at : (k : ℕ) (c : Conn) (s : List ℕ) (at n : ℕ) (room : Room) → let r = runs k c s at n room in r .at ≡ at + total (lengths (r .applied) s at)
+unfolding runs lengths
+stops-at zero c s at n room = sym (add-zero at)
+stops-at (suc k) c s at n room = go (callAt s at) refl (call-in s at) (λ d p m r. stops-at k d s p m r)
+  where
+    Stops : Traced → Type 0
+    Stops r = r .at ≡ at + total (lengths (r .applied) s at)
+
+    go : (f : Found) → callAt s at ≡ f → Ahead s at f → ((d : Conn) (p m : ℕ) (r : Room) → let q = runs k d s p m r in q .at ≡ p + total (lengths (q .applied) s p))
+        → Stops (onFound f c at n room (λ c′ at′ n′ room′. runs k c′ s at′ n′ room′))
+    go short q a ih = sym (add-zero at)
+    go bad q a ih = sym (add-zero at)
+    go (call x next) q a ih = either Stops (isFull room) (sym (add-zero at)) wrote-at
+      where
+        line : List ℕ
+        line = eventLine (n + 1) (step c x .outcome)
+
+        after : Traced
+        after = runs k (step c x .after) s next (n + 1) (less room (length line))
+
+        counted : (j : ℕ) → lengths (j + 1) s at ≡ (next - at) ∷ lengths j s next
+        counted j = let e : j + 1 ≡ suc j = omega arith in ap (λ (i : ℕ). lengths i s at) e ∙ rw q
+
+        wrote-at : Stops (wrote line after)
+        wrote-at = rw (counted (after .applied)) (omega (arith, ih (step c x .after) next (n + 1) (less room (length line)), a .0))
+
+-- The byte that is printed of an unreadable trace: the length of its settings and of all events before the failing one.
+pub unreadable-output : (s : List ℕ) (t : Settings) (next : ℕ) (k : Config) → settingsAt s ≡ preamble.Settings t next → checkedWithin most t ≡ settings.Fine k
+    → let r = runs allowance (initial k) s next 0 endless in Unreadable r (length s)
+    → output s ≡ r .lines ++ badLine (r .applied) (next + total (lengths (r .applied) s next))
+unreadable-output s t next k e f u =
+    let r = runs allowance (initial k) s next 0 endless in
+    ap output (sym (append-nil s))
+    ∙ fine-output s [] t next e k f
+    ∙ ap (λ (l : List ℕ). printed (runs allowance (initial k) l next 0 endless) (length l)) (append-nil s)
+    ∙ ap (λ (l : List ℕ). r .lines ++ l) (line r u)
+    ∙ ap (λ (n : ℕ). r .lines ++ badLine (r .applied) n) (stops-at allowance (initial k) s next 0 endless)
+  where
+    line : (r : Traced) → Unreadable r (length s) → lastLine (r .why) (length s - r .at) (r .at) (r .applied) (r .after .growth) ≡ badLine (r .applied) (r .at)
+    line r (inl h) = rw h
+    line r (inr h) = rw (h .0, lt-ltb 0 (length s - r .at) (omega (arith, h .1)))

@@ -1,12 +1,15 @@
 -- A run over a trace: its lines, the events applied, where it stops and why. Sentences are document 01's, "replay".
+use mathlib.Core.Path.{_≡_}
+use mathlib.Core.Logic.{_⊎_}
 use mathlib.Core.Bool.{Bool, false, cond}
 use mathlib.Core.List.{List, [], _∷_, _++_}
-use Prim.Native.Nat.{ℕ, zero, suc, _+_, _-_}
+use Prim.Native.Nat.{ℕ, zero, suc, _+_, _-_, _<_}
 use lib.ListN.{length, drop}
 use lib.Dec.{ltb}
 use Rattle.frame.specs.Wire.{wire}
 use Rattle.stream.specs.declared.Sent.{Sent}
 use Rattle.stream.specs.declared.Sent.the-variants.{Frame, Nothing}
+use Rattle.rules.specs.Lists.{sum}
 use Rattle.rules.specs.Replies.{Outcome}
 use Rattle.rules.specs.State.{Conn}
 use Rattle.rules.specs.Step.{Call, step}
@@ -88,6 +91,28 @@ readsOn (call x next) go = x ∷ go next
 unfoldable pub reads : ℕ → List ℕ → ℕ → List Call
 reads zero s at = []
 reads (suc k) s at = readsOn (callAt s at) (λ next. reads k s next)
+
+-- ---- where events stand
+
+abbrev pub lengthsOn : Found → ℕ → (ℕ → List ℕ) → List ℕ
+lengthsOn short at go = []
+lengthsOn bad at go = []
+lengthsOn (call x next) at go = (next - at) ∷ go next
+
+-- the lengths of at most k events from a place on
+unfoldable pub lengths : ℕ → List ℕ → ℕ → List ℕ
+lengths zero s at = []
+lengths (suc k) s at = lengthsOn (callAt s at) at (λ next. lengths k s next)
+
+-- the bytes that they take together
+abbrev pub total : List ℕ → ℕ
+total ns = sum (λ (n : ℕ). n) ns
+
+-- an event that cannot be read, or is cut short, stands where a run over an input of so many bytes stopped
+abbrev pub Unreadable : Traced → ℕ → Type 0
+Unreadable r size = (r .why ≡ stop.Bad) ⊎ ((r .why ≡ stop.Short) × (r .at < size))
+
+-- ---- the lines of a run
 
 -- the lines of outcomes, n events being applied before the first
 abbrev pub linesOf : ℕ → List Outcome → List ℕ

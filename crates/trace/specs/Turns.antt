@@ -3,7 +3,7 @@ use mathlib.Core.Path.{_≡_}
 use mathlib.Core.Bool.{Bool, true, false}
 use mathlib.Core.Logic.{_⊎_}
 use mathlib.Core.List.{List}
-use Prim.Native.Nat.{ℕ, suc, _+_, _-_, _≤_, _<_, min}
+use Prim.Native.Nat.{ℕ, suc, _+_, _-_, _*_, _≤_, _<_, min}
 use lib.ListN.{length, take}
 use lib.Seq.{sets}
 use Rattle.stream.specs.declared.Sent.{Sent}
@@ -47,7 +47,8 @@ Lacks stop.Short size at room put = size < at + longest
 Lacks stop.Full size at room put = room - put < longestLine
 Lacks stop.Bad size at room put = Unit {0}
 Lacks stop.Spent size at room put = Unit {0}
-Lacks stop.Refused size at room put = Unit {0}
+Lacks (stop.Wrong w) size at room put = Unit {0}
+Lacks stop.Size size at room put = Unit {0}
 
 -- nothing is applied at a place, and so a run stops there, from any state
 pub record Halts (t l p s : List ℕ) (at : ℕ) (o : List ℕ) (put : ℕ) (why : Stop) (t′ l′ p′ o′ : List ℕ) : Type 0 where
@@ -67,9 +68,10 @@ pub record Continues (c : Connection) (t l p s : List ℕ) (at number : ℕ) (o 
   pub ends : end ≡ put + length line
   pub out : o′ ≡ sets o put line
 
--- on every input: forward in the input and in the room, and inside both
+-- on every input: forward in the input, by no more than the longest event, and in the room, and inside both
 pub record Goes (c : Connection) (t l p s : List ℕ) (at number : ℕ) (o : List ℕ) (put : ℕ) (d : Connection) (after end : ℕ) (t′ l′ p′ o′ : List ℕ) : Type 0 where
   pub forward : at < after
+  pub reach : after ≤ at + longest
   pub inside : after ≤ length s
   pub written : put ≤ end
   pub room : end ≤ length o
@@ -100,11 +102,12 @@ abbrev pub runsFrom : Connection → List ℕ → List ℕ → List ℕ → List
 runsFrom c t l p s o place allowance =
     runs (allowance - place .applied) (absOf c t l p) s (place .at) (place .applied) (only (length o - place .put))
 
--- Where a run stands, on every input: never back, and never past the allowance, the input or the room; and where it started, unless
--- it applied an event.
+-- Where a run stands, on every input: never back, and never past the allowance, the input, the room or what the longest events take; and
+-- where it started, unless it applied an event.
 pub record Bounds (s o : List ℕ) (place : Place) (allowance at applied put : ℕ) : Type 0 where
   pub counted : place .applied ≤ applied
   pub forward : place .at ≤ at
+  pub reach : at ≤ place .at + (applied - place .applied) * longest
   pub inside : place .at ≤ length s → at ≤ length s
   pub written : place .put ≤ put
   pub room : place .put ≤ length o → put ≤ length o
@@ -114,7 +117,7 @@ pub record Bounds (s o : List ℕ) (place : Place) (allowance at applied put : �
 -- nothing changes.
 pub record Runs (sized : Bool) (c : Connection) (t l p s o : List ℕ) (place : Place) (allowance : ℕ) (r : Report) (t′ l′ p′ o′ : List ℕ) : Type 0 where
   pub steps : sized ≡ true → Valid c t l p → RanAs (runsFrom c t l p s o place allowance) place o r t′ l′ p′ o′
-  pub wrong : sized ≡ false → (r ≡ stoppedAt c place stop.Refused) × (t′ ≡ t) × (l′ ≡ l) × (p′ ≡ p) × (o′ ≡ o)
+  pub wrong : sized ≡ false → (r ≡ stoppedAt c place stop.Size) × (t′ ≡ t) × (l′ ≡ l) × (p′ ≡ p) × (o′ ≡ o)
   pub bounds : Bounds s o place allowance (r .place .at) (r .place .applied) (r .place .put)
   pub lacks : Lacks (r .stop) (length s) (r .place .at) (length o) (r .place .put)
 

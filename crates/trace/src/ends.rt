@@ -1,11 +1,13 @@
 // How a trace starts and ends: its settings and its last line.
 ghost use mathlib.Core.Path.{_≡_};
-ghost use Rattle.rules.specs.Settings.{checked};
+ghost use Rattle.rules.specs.Settings.{checkedWithin};
 ghost use Rattle.trace_events.specs.Format.{settingsAt};
-ghost use Rattle.trace.specs.Output.{sizesOf, judgedAs, begunAs, Finishes};
+ghost use Rattle.trace.specs.Output.{most, sizesOf, judgedAs, begunAs, Finishes};
 use crate::Stop;
 use rules::Checked;
 use rules::Config;
+use rules::Most;
+use rules::Reply;
 use rules::Settings;
 use trace_events::Preamble;
 use trace_lines::Put;
@@ -23,9 +25,9 @@ pub enum Begun {
     Stop(Stop),
 }
 
-const MOST_SLOTS: u32 = 300;
+const MOST_SLOTS: u64 = 300;
 
-const MOST_POOL: u32 = 16384;
+const MOST_POOL: u64 = 16384;
 
 fn sizes_of(config: Config) -> Sizes
     ensures { λ r. ⌜ r ≡ sizesOf config ⌝ }
@@ -39,18 +41,16 @@ fn sizes_of(config: Config) -> Sizes
 
 // Judges settings, once all ten are read.
 fn judge(settings: Settings, next: usize) -> Begun
-    ensures { λ r. ⌜ r ≡ judgedAs (checked settings) settings next ⌝ }
+    ensures { λ r. ⌜ r ≡ judgedAs (checkedWithin most settings) settings next ⌝ }
 {
-    let checked = settings.check();
+    let most = Most {
+        slots: MOST_SLOTS,
+        pool: MOST_POOL,
+    };
+    let checked = settings.check_within(most);
     match checked {
-        Checked::Wrong(_) => Begun::Stop(Stop::Refused),
+        Checked::Wrong(setting) => Begun::Stop(Stop::Wrong(setting)),
         Checked::Fine(config) => {
-            if MOST_SLOTS < config.slots {
-                return Begun::Stop(Stop::Refused);
-            }
-            if MOST_POOL < config.pool {
-                return Begun::Stop(Stop::Refused);
-            }
             let sizes = sizes_of(config);
             Begun::Fine(settings, sizes, next)
         }
@@ -69,21 +69,33 @@ pub fn begin(src: &[u8]) -> Begun
     }
 }
 
-// Writes the last line of a trace whose run stopped so, `left` bytes of it being left. A run that stopped for room is not over:
-// nothing is written, and it is told again that there is none.
-pub fn finish(out: &mut [u8], put: usize, stop: Stop, left: usize, applied: u64, growth: u64) -> Put
-    ensures { λ r. ⌜ Finishes stop left applied growth (now (out .entry)) put (now (out .exit)) r ⌝ }
+// Writes the last line of a trace whose run stopped so, at this byte of the input, `left` bytes of it being left. A run that stopped for
+// room is not over: nothing is written, and it is told again that there is none.
+pub fn finish(
+    out: &mut [u8],
+    put: usize,
+    stop: Stop,
+    left: usize,
+    byte: u64,
+    applied: u64,
+    growth: u64,
+) -> Put
+    ensures { λ r. ⌜ Finishes stop left byte applied growth (now (out .entry)) put (now (out .exit)) r ⌝ }
 {
     match stop {
         Stop::Short => {
             if 0 < left {
-                return trace_lines::bad_line(out, put, applied);
+                return trace_lines::bad_line(out, put, applied, byte);
             }
             trace_lines::end_line(out, put, applied, growth)
         }
-        Stop::Bad => trace_lines::bad_line(out, put, applied),
+        Stop::Bad => trace_lines::bad_line(out, put, applied, byte),
         Stop::Spent => trace_lines::end_line(out, put, applied, growth),
         Stop::Full => Put::Full,
-        Stop::Refused => trace_lines::config_line(out, put),
+        Stop::Wrong(setting) => trace_lines::config_line(out, put, setting.number()),
+        Stop::Size => {
+            let reply = Reply::Size;
+            trace_lines::config_line(out, put, reply.number())
+        }
     }
 }

@@ -16,6 +16,7 @@ ghost use Rattle.trace.specs.Turns.{headerSize, shownLine, Turns, stoppe
 use connection::Connection;
 use frame::header::HEADER_SIZE;
 use handlers::Answer;
+use rules::Setting;
 use stream::Sent;
 use trace_events::Kind;
 use trace_events::Parsed;
@@ -23,15 +24,15 @@ use trace_lines::LONGEST_LINE;
 use trace_lines::Put;
 use trace_lines::Shown;
 
-// Why a run stopped: the input ends before or within an event; the next event is unreadable; the allowance is used up; there
-// is less room than the longest line takes; or reply 14, a setting being out of range or something lent of the wrong size, and
-// nothing was applied.
+// Why a trace stopped: the input ends before or within an event; the next event is unreadable; the allowance is used up; there
+// is less room than the longest line takes; a setting is wrong; or something lent is of the wrong size, and nothing was applied.
 pub enum Stop {
     Short,
     Bad,
     Spent,
     Full,
-    Refused,
+    Wrong(Setting),
+    Size,
 }
 
 // Where a run stands: the place in the input, the events applied so far, and the place in the room for lines.
@@ -218,7 +219,7 @@ pub fn run(
         bytes.len(),
     );
     if !right {
-        return stopped(c, place, Stop::Refused);
+        return stopped(c, place, Stop::Size);
     }
     go(
         c,

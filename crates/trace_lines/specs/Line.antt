@@ -80,14 +80,19 @@ lineOf s header bytes =
 abbrev pub shownOf : ℕ → Outcome → Shown
 shownOf n o = record { number = n; reply = o .reply; slot = o .slot; value = o .value; wakes = o .wakes }
 
+-- a word and two numbers
+unfoldable pub lastOf : List ℕ → ℕ → ℕ → List ℕ
+lastOf word a b = word ++ (field (decimal a) 32 ++ field (decimal b) 10)
+
 -- "Last line `end`, events applied, growth figure"
-unfoldable pub endLine : ℕ → ℕ → List ℕ
-endLine events growth = (101 ∷ 110 ∷ 100 ∷ 32 ∷ []) ++ (field (decimal events) 32 ++ field (decimal growth) 10)
+abbrev pub endLine : ℕ → ℕ → List ℕ
+endLine events growth = lastOf (101 ∷ 110 ∷ 100 ∷ 32 ∷ []) events growth
 
--- "for an unreadable trace `bad` and events applied"
-unfoldable pub badLine : ℕ → List ℕ
-badLine events = (98 ∷ 97 ∷ 100 ∷ 32 ∷ []) ++ field (decimal events) 10
+-- "for an unreadable trace `bad` and events applied", and M-100: "the byte, counted from 0, at which the failing event starts .., after the
+-- event count"
+abbrev pub badLine : ℕ → ℕ → List ℕ
+badLine events byte = lastOf (98 ∷ 97 ∷ 100 ∷ 32 ∷ []) events byte
 
--- "for reply 14 only `config 14`"
-unfoldable pub configLine : List ℕ
-configLine = 99 ∷ 111 ∷ 110 ∷ 102 ∷ 105 ∷ 103 ∷ 32 ∷ 49 ∷ 52 ∷ 10 ∷ []
+-- M-100: "`config` prints that number"
+unfoldable pub configLine : ℕ → List ℕ
+configLine n = (99 ∷ 111 ∷ 110 ∷ 102 ∷ 105 ∷ 103 ∷ 32 ∷ []) ++ field (decimal n) 10

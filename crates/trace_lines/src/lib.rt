@@ -4,7 +4,7 @@ ghost use mathlib.Core.List.{[], _∷_};
 ghost use Prim.Native.Nat.{_+_, _-_, _*_, _≤_, _<_};
 ghost use lib.ListN.{length};
 ghost use Rattle.rules.specs.Replies.{number};
-ghost use Rattle.trace_lines.specs.Line.{decimal, hexDigit, hex, orDash, slotValue, valueText, mark, marks, wakesText, field, lineOf, endLine, badLine, configLine};
+ghost use Rattle.trace_lines.specs.Line.{decimal, hexDigit, hex, orDash, slotValue, valueText, mark, marks, wakesText, field, lineOf, lastOf, endLine, badLine, configLine};
 ghost use Rattle.trace_lines.specs.Writing.{Stores, Room, Writes, lineRoom, lastRoom};
 use rules::Reply;
 use rules::Value;
@@ -240,35 +240,40 @@ pub fn line(out: &mut [u8], at: usize, shown: Shown, header: &[u8], bytes: &[u8]
     Put::At(put_fields(out, at, shown, header, bytes))
 }
 
+// A last line: a word and two numbers.
+fn put_last(out: &mut [u8], at: usize, word: &[u8], a: u64, b: u64) -> Put
+    requires { ⌜ length (now word) ≤ 8 ⌝ }
+    ensures { λ r. ⌜ Writes lastRoom (now (out .entry)) at (lastOf (now (word .entry)) a b) (now (out .exit)) r ⌝ }
+{
+    if room_left(out.len(), at) < ROOM {
+        return Put::Full;
+    }
+    let said = put_text(out, at, word);
+    let first = put_number(out, said, a, SPACE);
+    Put::At(put_number(out, first, b, NEWLINE))
+}
+
 // The last line: the events applied and the growth figure.
 pub fn end_line(out: &mut [u8], at: usize, events: u64, growth: u64) -> Put
     ensures { λ r. ⌜ Writes lastRoom (now (out .entry)) at (endLine events growth) (now (out .exit)) r ⌝ }
 {
-    if room_left(out.len(), at) < ROOM {
-        return Put::Full;
-    }
-    let said = put_text(out, at, b"end ");
-    let applied = put_number(out, said, events, SPACE);
-    Put::At(put_number(out, applied, growth, NEWLINE))
+    put_last(out, at, b"end ", events, growth)
 }
 
-// The last line of an unreadable trace: the events applied.
-pub fn bad_line(out: &mut [u8], at: usize, events: u64) -> Put
-    ensures { λ r. ⌜ Writes lastRoom (now (out .entry)) at (badLine events) (now (out .exit)) r ⌝ }
+// The last line of an unreadable trace: the events applied, and the byte of the input at which the failing one starts.
+pub fn bad_line(out: &mut [u8], at: usize, events: u64, byte: u64) -> Put
+    ensures { λ r. ⌜ Writes lastRoom (now (out .entry)) at (badLine events byte) (now (out .exit)) r ⌝ }
+{
+    put_last(out, at, b"bad ", events, byte)
+}
+
+// The only line where the settings are refused: the number of the reply.
+pub fn config_line(out: &mut [u8], at: usize, number: u32) -> Put
+    ensures { λ r. ⌜ Writes lastRoom (now (out .entry)) at (configLine number) (now (out .exit)) r ⌝ }
 {
     if room_left(out.len(), at) < ROOM {
         return Put::Full;
     }
-    let said = put_text(out, at, b"bad ");
-    Put::At(put_number(out, said, events, NEWLINE))
-}
-
-// The only line where the settings are refused.
-pub fn config_line(out: &mut [u8], at: usize) -> Put
-    ensures { λ r. ⌜ Writes lastRoom (now (out .entry)) at configLine (now (out .exit)) r ⌝ }
-{
-    if room_left(out.len(), at) < ROOM {
-        return Put::Full;
-    }
-    Put::At(put_text(out, at, b"config 14\n"))
+    let said = put_text(out, at, b"config ");
+    Put::At(put_number(out, said, wide(number), NEWLINE))
 }

@@ -1,44 +1,45 @@
 -- All that is printed for the bytes that reads brought is what was put to be written: of every turn, and of the whole. Assumes nothing.
 use mathlib.Core.Path.{_≡_, refl, sym, ap, subst, _∙_}
-use mathlib.Core.Bool.{Bool, true, false, cond}
+use mathlib.Core.Bool.{Bool, true, false}
 use mathlib.Core.Logic.{inl, inr}
 use mathlib.Core.List.{List, [], _++_, append-assoc, append-nil}
 use Prim.Native.Nat.{ℕ, _+_, _-_, _≤_}
+use native.Mathlib.Nat.{add-zero, zero-add}
 use native.Mathlib.Omega.{arith}
 use lib.ListN.{length, take, drop, length-append, take-append-drop}
-use lib.Seq.{sets, sets-eq, length-sets, length-take-le, take-append-seam, take-take}
+use lib.Seq.{sets-eq, length-sets, length-take-le, take-append-seam, take-take}
 use borrow.Author.Tests.{le-leb}
 use Rattle.chunks.proofs.Parts.{drop-take}
 use Rattle.memory.proofs.Laws.{never}
 use Rattle.rules.specs.State.{Conn}
-use Rattle.rules.specs.Settings.{checked}
+use Rattle.rules.specs.Settings.{checkedWithin}
 use Rattle.rules.specs.declared.Settings.{Settings}
 use Rattle.rules.specs.declared.Checked.{Checked}
 use Rattle.rules.specs.declared.Checked.the-variants as settings
 use Rattle.connection.specs.Abstract.{absOf, Valid}
 use Rattle.trace.specs.Runs.{Traced, only, runs}
-use Rattle.trace.specs.Output.{isSmall, sizesOf, judgedAs, begunAs, lastLine, allowance, output, remaining, IsLast}
+use Rattle.trace.specs.Output.{most, judgedAs, begunAs, lastLine, allowance, output, remaining, IsLast}
 use Rattle.trace.specs.Turns.{Runs, RanAs, runsFrom}
 use Rattle.trace.specs.declared.Stop.{Stop}
 use Rattle.trace.specs.declared.Stop.the-variants as stop
 use Rattle.trace.specs.declared.Report.{Report}
-use Rattle.trace.specs.declared.ends.Sizes.{Sizes}
 use Rattle.trace.specs.declared.ends.Begun.the-variants as begun
 use Rattle.trace_events.specs.Format.{settingsAt}
 use Rattle.trace_events.specs.declared.Preamble.{Preamble}
 use Rattle.trace_events.specs.declared.Preamble.the-variants as preamble
+use Rattle.rules.proofs.Judging.{permitted-too}
 use Rattle.trace_events.proofs.More.{Settles}
 use Rattle.trace_events.proofs.Settings.{settings-more}
 use Rattle.trace.proofs.Whole.{settings-there}
 use Rattle.trace.proofs.Remaining.{run-remains, last-remains, none-reached, events-reached}
-use Rattle.filter.specs.Parts.{kept, Inside, afterRead, afterWrite, Flushed, Fed}
+use Rattle.filter.specs.Parts.{kept, Inside, afterRead, afterWrite, Flushed}
 use Rattle.filter.specs.Account.{Account, nothing, reads, writes, then, Prefix}
 use Rattle.filter.specs.declared.Standing.{Standing}
 use Rattle.filter.specs.declared.Work.{Work}
 use Rattle.filter.specs.declared.Work.the-variants.{Whole, Unread, Unwritten, Unlent}
 use Rattle.filter.specs.declared.Got.{Got}
 use Rattle.filter.specs.declared.Got.the-variants.{More, End, Failed}
-use Rattle.trace_play.specs.Places.{nextTask, placeOf, afterRun, moved}
+use Rattle.trace_play.specs.Places.{nextTask, placeOf, afterRun, moved, passed, fedOn}
 use Rattle.trace_play.specs.Plays.{Wrote, Took, putting, over, Closed, broken, last, GoesOn, Lent, lent, Played, Plays, none, more, Performed, unread, unreached, played, isEnded, Lasts}
 use Rattle.trace_play.specs.declared.State.{State}
 use Rattle.trace_play.proofs.Nearing.{kept-length}
@@ -65,7 +66,7 @@ pub record Stands (a : Account) (s : State) (m : Lent) : Type 0 where
   pub at : s .standing .at ≤ s .standing .have
   pub have : s .standing .have ≤ length (m .input)
   pub put : s .standing .put ≤ length (m .room)
-  pub owes : (next : List ℕ) → output (a .brought ++ next) ≡ a .put ++ (take (s .standing .put) (m .room) ++ remaining (s .applied) (conn s m) (rest s m ++ next))
+  pub owes : (next : List ℕ) → output (a .brought ++ next) ≡ a .put ++ (take (s .standing .put) (m .room) ++ remaining (passed s) (s .applied) (conn s m) (rest s m ++ next))
 
 -- What was put is the start of what is printed for all that was brought; and all of it where all is done and every read and write did its
 -- work, whatever comes after where the input has not ended: then the room holds the last line.
@@ -114,10 +115,10 @@ module _ (a : Account) (s : State) (m : Lent) (z : Stands a s m) (report : Repor
       let n : report .place .put ≡ length front = ran-as .put ∙ rw (length-append (take (s .standing .put) o) (ran .lines), length-take-le (s .standing .put) o (z .put)) in
       rw (ran-as .out, sets-eq (ran .lines) o (s .standing .put) fits, n) (take-append-seam front (drop (s .standing .put + length (ran .lines)) o))
 
-  ran-owes : (next : List ℕ) → output (a .brought ++ next) ≡ a .put ++ ((take (s .standing .put) (m .room) ++ ran .lines) ++ remaining (s .applied + ran .applied) (ran .after) (drop (ran .at) read ++ next))
+  ran-owes : (next : List ℕ) → output (a .brought ++ next) ≡ a .put ++ ((take (s .standing .put) (m .room) ++ ran .lines) ++ remaining (s .before + ran .at) (s .applied + ran .applied) (ran .after) (drop (ran .at) read ++ next))
   ran-owes next =
       z .owes next
-      ∙ ap (λ (l : List ℕ). a .put ++ (take (s .standing .put) (m .room) ++ l)) (run-remains (s .applied) (conn s m) read (s .standing .at) (only (length (m .room) - s .standing .put)) inside next)
+      ∙ ap (λ (l : List ℕ). a .put ++ (take (s .standing .put) (m .room) ++ l)) (run-remains (s .before) (s .applied) (conn s m) read (s .standing .at) (only (length (m .room) - s .standing .put)) inside next)
       ∙ ap (λ (l : List ℕ). a .put ++ l) (sym (append-assoc (take (s .standing .put) (m .room)) (ran .lines) _))
 
   pub ran-stands : Stands a (afterRun s report) (lent t′ l′ p′ (m .input) written)
@@ -131,10 +132,10 @@ module _ (a : Account) (s : State) (m : Lent) (z : Stands a s m) (report : Repor
 
   -- where this run is the last, the last line is printed
   pub ran-ends : (next : List ℕ) → IsLast next (report .stop)
-      → output (a .brought ++ next) ≡ a .put ++ (take (report .place .put) written ++ lastLine (report .stop) (s .standing .have - report .place .at) (report .place .applied) (report .connection .growth))
+      → output (a .brought ++ next) ≡ a .put ++ (take (report .place .put) written ++ lastLine (report .stop) (s .standing .have - report .place .at) (s .before + report .place .at) (report .place .applied) (report .connection .growth))
   ran-ends next l =
       let g : report .connection .growth ≡ ran .after .growth = ap (λ (c : Conn). c .growth) (ran-as .after) in
-      let w = last-remains (s .applied) (conn s m) read (s .standing .at) (only (length (m .room) - s .standing .put)) inside next (subst (IsLast next) (ran-as .why) l) in
+      let w = last-remains (s .before) (s .applied) (conn s m) read (s .standing .at) (only (length (m .room) - s .standing .put)) inside next (subst (IsLast next) (ran-as .why) l) in
       ran-owes next
       ∙ ap (λ (x : List ℕ). a .put ++ ((take (s .standing .put) (m .room) ++ ran .lines) ++ x)) w
       ∙ rw (lines-put, ran-as .why, ran-as .at, ran-as .applied, g, size)
@@ -182,7 +183,7 @@ module _ (a : Account) (s : State) (m : Lent) (z : Stands a s m) (live : s .stan
     ended End q d w = never (sym d ∙ ap (λ (y : Standing). y .done) q ∙ live)
     ended Failed q d w = never (sym (ap worked w) ∙ ap (λ (y : Standing). worked (y .work)) q)
 
-    took-stands : Stands (then a (reads new)) (moved s x) (lent (m .table) (m .links) (m .pool) input′ (m .room))
+    took-stands : Stands (then a (reads new)) (fedOn s x) (lent (m .table) (m .links) (m .pool) input′ (m .room))
     took-stands =
         let f = places (t .fed .got) (t .fed .inside) (t .fed .is) in
         let whole : take (x .have) input′ ≡ rest s m ++ new = sym (take-append-drop (length front) (take (x .have) input′)) ∙ ap (λ (y : List ℕ). y ++ new) (take-take (length front) (x .have) input′ (f .2) ∙ t .fed .front ∙ is-rest) in
@@ -194,7 +195,7 @@ module _ (a : Account) (s : State) (m : Lent) (z : Stands a s m) (live : s .stan
           owes = λ next.
               let l : drop (x .at) (take (x .have) input′) ++ next ≡ rest s m ++ (new ++ next) =
               ap (λ (i : ℕ). drop i (take (x .have) input′) ++ next) (f .0) ∙ ap (λ (y : List ℕ). y ++ next) whole ∙ append-assoc (rest s m) new next in
-              rw (append-nil (a .put), append-assoc (a .brought) new next, l, f .1) (z .owes (new ++ next));
+              rw (append-nil (a .put), append-assoc (a .brought) new next, l, f .1, f .0, add-zero (passed s)) (z .owes (new ++ next));
         }
 
     took-after : After (then a b) s′ (lent (m .table) (m .links) (m .pool) input′ (m .room))
@@ -218,7 +219,7 @@ module _ (a : Account) (s : State) (m : Lent) (z : Stands a s m) (b : Account) (
   lines = take (k .report .place .put) (k .written)
 
   abbrev line : List ℕ
-  line = lastLine (k .report .stop) (s .standing .have - k .report .place .at) (k .report .place .applied) (k .report .connection .growth)
+  line = lastLine (k .report .stop) (s .standing .have - k .report .place .at) (passed s₁) (k .report .place .applied) (k .report .connection .growth)
 
   -- whatever may still come, the last line is printed
   abbrev Ends : Type 0
@@ -236,6 +237,7 @@ module _ (a : Account) (s : State) (m : Lent) (z : Stands a s m) (b : Account) (
             front = a .put ++ lines;
             why = k .report .stop;
             left = s .standing .have - k .report .place .at;
+            byte = passed s₁;
             applied = k .report .place .applied;
             growth = k .report .connection .growth;
             over = is-last;
@@ -282,7 +284,8 @@ module _ (a : Account) (s : State) (m : Lent) (z : Stands a s m) (b : Account) (
   goes-after stop.Short false i e g = subst (λ (o : List ℕ). After (then a b) s′ (lent (m′ .table) (m′ .links) (m′ .pool) (m′ .input) o)) (sym (g .1)) (took-after a s₁ m₁ here (k .live) b s′ (m′ .input) (g .0))
   goes-after stop.Bad ended i e g = closed-after stop.Bad e (λ next n. tt) (g .0)
   goes-after stop.Spent ended i e g = closed-after stop.Spent e (λ next n. tt) (g .0)
-  goes-after stop.Refused ended i e g = closed-after stop.Refused e (λ next n. tt) (g .0)
+  goes-after (stop.Wrong w) ended i e g = closed-after (stop.Wrong w) e (λ next n. tt) (g .0)
+  goes-after stop.Size ended i e g = closed-after stop.Size e (λ next n. tt) (g .0)
 
   turn-after : After (then a b) s′ m′
   turn-after = goes-after (k .report .stop) (s .standing .ended) refl refl (k .goes)
@@ -309,25 +312,21 @@ begun-over x why e = go x e
     by : (a : Stop) → IsLast [] a → begun.Stop a ≡ begun.Stop why → IsLast [] why
     by a h q = let z : a ≡ why = cc in subst (IsLast []) z h
 
-    small : (t : Settings) (y : Sizes) (next : ℕ) (b : Bool) → cond b (begun.Fine t y next) (begun.Stop stop.Refused) ≡ begun.Stop why → IsLast [] why
-    small t y next true f = absurd (let z : _≡_ {A = ℕ} 0 1 = cc in omega arith)
-    small t y next false f = by stop.Refused tt f
-
     judged : (t : Settings) (next : ℕ) (y : Checked) → judgedAs y t next ≡ begun.Stop why → IsLast [] why
-    judged t next (settings.Wrong w) f = by stop.Refused tt f
-    judged t next (settings.Fine c) f = small t (sizesOf c) next (isSmall c) f
+    judged t next (settings.Wrong w) f = by (stop.Wrong w) tt f
+    judged t next (settings.Fine c) f = absurd (let z : _≡_ {A = ℕ} 0 1 = cc in omega arith)
 
     go : (y : Preamble) → begunAs y ≡ begun.Stop why → IsLast [] why
-    go (preamble.Settings t next) f = judged t next (checked t) f
+    go (preamble.Settings t next) f = judged t next (checkedWithin most t) f
     go preamble.Short f = by stop.Bad tt f
     go preamble.Bad f = by stop.Bad tt f
 
 -- no event is reached, whatever comes after where the input has not ended
-none-after : (s next : List ℕ) (ended : Bool) (why : Stop) → (ended ≡ false → 100 ≤ length s) → (ended ≡ true → next ≡ []) → begunAs (settingsAt s) ≡ begun.Stop why → output (s ++ next) ≡ lastLine why 0 0 0
+none-after : (s next : List ℕ) (ended : Bool) (why : Stop) → (ended ≡ false → 100 ≤ length s) → (ended ≡ true → next ≡ []) → begunAs (settingsAt s) ≡ begun.Stop why → output (s ++ next) ≡ lastLine why 0 0 0 0
 none-after s next true why h n e = rw (n refl, append-nil s) (none-reached s why e)
 none-after s next false why h n e = go (settings-more s next)
   where
-    go : Settles preamble.Short (settingsAt s) (settingsAt (s ++ next)) → output (s ++ next) ≡ lastLine why 0 0 0
+    go : Settles preamble.Short (settingsAt s) (settingsAt (s ++ next)) → output (s ++ next) ≡ lastLine why 0 0 0 0
     go (inl q) = absurd (settings-there s (h refl) q)
     go (inr q) = none-reached (s ++ next) why (ap begunAs q ∙ e)
 
@@ -340,13 +339,13 @@ pub performed : {m : Lent} {b : Account} {r : Work} {m′ : Lent} (p : Performed
     × (r ≡ Whole → Lasts (output (b .brought)) (m′ .room))
 performed (unread have input) = ((_, refl), λ e next n. never (sym (ap worked e)), λ e. never (sym (ap worked e)))
 performed (unreached {b} {room′} have ended input why r n h e o) =
-    let p : b ≡ writes (lastLine why 0 0 0) = o .flushed .puts ∙ ap writes (o .text) in
+    let p : b ≡ writes (lastLine why 0 0 0 0) = o .flushed .puts ∙ ap writes (o .text) in
     let l : length (take have input) ≡ have = length-take-le have input h in
     let printed = none-reached (take have input) why e in
     rw (p, append-nil (take have input)) (
-      ([], printed ∙ sym (append-nil (lastLine why 0 0 0))),
+      ([], printed ∙ sym (append-nil (lastLine why 0 0 0 0))),
       λ q next f. none-after (take have input) next ended why (λ i. rw l (n i)) f e,
-      λ q. record { front = []; why = why; left = 0; applied = 0; growth = 0; over = begun-over (settingsAt (take have input)) why e; is = printed; there = stands-there (o .end) room′ _ (o .text) },
+      λ q. record { front = []; why = why; left = 0; byte = 0; applied = 0; growth = 0; over = begun-over (settingsAt (take have input)) why e; is = printed; there = stands-there (o .end) room′ _ (o .text) },
     )
 performed {m} (played {m′} have ended input t z next r n h e q) =
     let done = q .ended .done in
@@ -354,7 +353,7 @@ performed {m} (played {m′} have ended input t z next r n h e q) =
     (last .start, λ w later f. last .all done (whole w) later f, λ w. last .line done (whole w))
   where
     first : State
-    first = record { connection = q .connection; applied = 0; standing = record { at = next; have = have; put = 0; ended = ended; done = false; work = Whole } }
+    first = record { connection = q .connection; applied = 0; before = 0; standing = record { at = next; have = have; put = 0; ended = ended; done = false; work = Whole } }
 
     made : Lent
     made = lent (q .table) (q .links) (q .pool) input (m .room)
@@ -367,7 +366,7 @@ performed {m} (played {m′} have ended input t z next r n h e q) =
           at = omega (arith, f .inside, length-take-le have input h);
           have = h;
           put = omega arith;
-          owes = λ later. rw (q .new (f .config) (f .fine)) (f .prints later);
+          owes = λ later. rw (q .new (f .config) (permitted-too most t (f .config) (f .fine)), zero-add next) (f .prints later);
         }
 
     last : Told (then (reads (take have input)) (q .ended .account)) (q .ended .state) (m′ .room)

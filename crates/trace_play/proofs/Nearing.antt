@@ -14,7 +14,7 @@ use Rattle.trace.specs.Output.{allowance}
 use Rattle.trace.specs.Turns.{Lacks}
 use Rattle.trace.specs.declared.Report.{Report}
 use Rattle.trace.specs.declared.Stop.{Stop}
-use Rattle.trace_play.specs.Places.{afterRun, moved, some, left, Nears}
+use Rattle.trace_play.specs.Places.{afterRun, moved, fedOn, some, left, Nears}
 use Rattle.memory.proofs.Laws.{never}
 use Rattle.filter.specs.Account.{Account}
 use Rattle.filter.specs.Parts.{kept, Inside, afterRead, afterWrite, Fed}
@@ -49,13 +49,13 @@ flushed s false room h l live e = never e
 
 -- the input goes on, or it has ended
 pub fed : (input : List ℕ) (s : State) (x : Standing) (input′ : List ℕ) → s .standing .at ≤ s .standing .have → s .standing .have ≤ length input
-    → s .standing .have < s .standing .at + longest → s .standing .ended ≡ false → {b : Account} → Fed (s .standing) input b x input′ → Nears s (moved s x)
+    → s .standing .have < s .standing .at + longest → s .standing .ended ≡ false → {b : Account} → Fed (s .standing) input b x input′ → Nears s (fedOn s x)
 fed input s x input′ h i l live f = go (f .got) (f .inside) (f .is)
   where
     n : ℕ
     n = length (kept input (s .standing .at) (s .standing .have))
 
-    go : (got : Got) → Inside n (length input) got → x ≡ afterRead (s .standing) n got → Nears s (moved s x)
+    go : (got : Got) → Inside n (length input) got → x ≡ afterRead (s .standing) n got → Nears s (fedOn s x)
     go (More m) j e = rw (e, live) (λ z. omega (arith, j .0, kept-length input (s .standing .at) (s .standing .have) h i))
     go End j e = rw (e, live) (λ z. omega (arith, kept-length input (s .standing .at) (s .standing .have) h i))
     go Failed j e = rw e (λ z. never z)

@@ -8,11 +8,13 @@ use lib.Dec.{leb, eqb}
 use lib.ListN.{length, take}
 use lib.Seq.{length-take-le, take-append-seam}
 use borrow.Author.Tests.{leb-true, eqb-true, eq-eqb}
+use Rattle.rules.proofs.Judging.{all-hold, permitted-too}
 use Rattle.rules.proofs.Lists.{both}
-use Rattle.rules.specs.Settings.{checked}
+use Rattle.rules.specs.Settings.{within, checked}
 use Rattle.rules.specs.State.{initial}
 use Rattle.rules.specs.declared.Settings.{Settings}
 use Rattle.rules.specs.declared.Setting.{Setting}
+use Rattle.rules.specs.declared.Setting.the-variants as setting
 use Rattle.rules.specs.declared.Config.{Config}
 use Rattle.rules.specs.declared.Checked.the-variants as settings
 use Rattle.connection.specs.Abstract.{absOf, Valid}
@@ -23,11 +25,11 @@ use Rattle.connection_open.specs.Start.{sized, Begins, Creates}
 use Rattle.connection_open.specs.declared.Created.{Created}
 use Rattle.connection_open.specs.declared.Created.the-variants.{Made, Wrong, Size}
 use Rattle.trace_events.specs.Format.{settingsAt}
-use Rattle.trace.specs.Output.{isSmall, sizesOf, begunAs}
+use Rattle.trace.specs.Output.{most, sizesOf, begunAs}
 use Rattle.trace.specs.declared.Stop.{Stop}
 use Rattle.trace.specs.declared.ends.Sizes.{Sizes}
 use Rattle.trace.specs.declared.ends.Begun.the-variants as begun
-use Rattle.trace.proofs.Remaining.{Prepared, events-reached}
+use Rattle.trace.proofs.Remaining.{Prepared}
 use Rattle.filter.specs.Account.{reads}
 use Rattle.filter.specs.Parts.{holding}
 use Rattle.filter.specs.declared.Standing.{Standing}
@@ -75,16 +77,19 @@ sizes-fit k =
 module _ {s : List ℕ} {t : Settings} {z : Sizes} {next : ℕ} (f : Prepared s t z next) where
   pub asked : Lends z
   asked =
-      let h = both (leb (f .config .slots) 300) (leb (f .config .pool) 16384) (f .small) in
-      let a : f .config .slots ≤ 300 = leb-true _ _ (h .0) in
-      let b : f .config .pool ≤ 16384 = leb-true _ _ (h .1) in
-      rw (f .sizes) (record { table = omega arith; links = omega arith; pool = omega arith })
+      let ok = all-hold most t (f .config) (f .fine) in
+      let h = both (within 1 1024 (t .slots)) _ (ok .0 setting.Slots) in
+      let i = both (leb (t .«max_num_streams») (t .slots)) _ (h .1) in
+      let j = both (leb (t .pool) 4294967295) _ (ok .0 setting.Pool) in
+      let a : t .slots ≤ 300 = leb-true _ _ (i .1) in
+      let b : t .pool ≤ 16384 = leb-true _ _ (j .1) in
+      rw (f .sizes, ok .1) (record { table = omega arith; links = omega arith; pool = omega arith })
 
   pub fitting : (table links pool : List ℕ) → z .table ≤ length table → z .links ≤ length links → z .pool ≤ length pool
       → Fitting t (length (take (z .table) table)) (length (take (z .links) links)) (length (take (z .pool) pool))
   fitting table links pool a b c = record {
     config = f .config;
-    fine = f .fine;
+    fine = permitted-too most t (f .config) (f .fine);
     fits = rw (length-take-le (z .table) table a, length-take-le (z .links) links b, length-take-le (z .pool) pool c, f .sizes) (sizes-fit (f .config));
   }
 

@@ -1,6 +1,6 @@
 -- Places in the program's buffers, what follows a run, and how much there is still to do.
 use mathlib.Core.Path.{_≡_}
-use mathlib.Core.Bool.{Bool, true, false, cond}
+use mathlib.Core.Bool.{Bool, false, cond}
 use Prim.Native.Nat.{ℕ, zero, suc, _+_, _-_, _*_, _≤_, _<_}
 use lib.Dec.{leb, eqb}
 use Rattle.filter.specs.declared.Standing.{Standing}
@@ -28,7 +28,8 @@ nextTask stop.Full ended = task.Write
 nextTask stop.Short ended = cond ended task.End task.Read
 nextTask stop.Bad ended = task.End
 nextTask stop.Spent ended = task.End
-nextTask stop.Refused ended = task.End
+nextTask (stop.Wrong w) ended = task.End
+nextTask stop.Size ended = task.End
 
 -- where a run starts
 abbrev pub placeOf : State → Place
@@ -39,6 +40,7 @@ abbrev pub afterRun : State → Report → State
 afterRun s r = record {
   connection = r .connection;
   applied = r .place .applied;
+  before = s .before;
   standing = record {
     at = r .place .at;
     have = s .standing .have;
@@ -51,7 +53,19 @@ afterRun s r = record {
 
 -- nothing but places changes
 abbrev pub moved : State → Standing → State
-moved s x = record { connection = s .connection; applied = s .applied; standing = x }
+moved s x = record { connection = s .connection; applied = s .applied; before = s .before; standing = x }
+
+-- the bytes of the input before the place where the program stands
+abbrev pub passed : State → ℕ
+passed s = s .before + s .standing .at
+
+-- what was not taken is moved to the buffer's start: all that was taken lies before it now
+abbrev pub fedOn : State → Standing → State
+fedOn s x = record { connection = s .connection; applied = s .applied; before = passed s; standing = x }
+
+-- no more lies before that place than settings, and the longest events, as many as are applied, can take: a number of 64 bits holds it
+abbrev pub Counted : State → Type 0
+Counted s = (passed s ≤ 100 + s .applied * longest) × (s .applied ≤ allowance)
 
 -- what was read is there, and what was written is inside the room
 abbrev pub Sound : ℕ → ℕ → Standing → Type 0

@@ -24,7 +24,7 @@ use Rattle.filter.specs.Account.{Account, nothing, reads, then, Prefix}
 use Rattle.filter.specs.declared.Standing.{Standing}
 use Rattle.filter.specs.declared.Work.{Work}
 use Rattle.filter.specs.declared.Work.the-variants.{Whole, Unread, Unlent}
-use Rattle.trace_play.specs.Places.{nextTask, placeOf, afterRun, moved}
+use Rattle.trace_play.specs.Places.{nextTask, placeOf, afterRun, moved, passed, fedOn}
 use Rattle.trace_play.specs.declared.State.{State}
 use Rattle.trace_play.specs.declared.Task.{Task}
 use Rattle.trace_play.specs.declared.Task.the-variants as task
@@ -39,7 +39,7 @@ pub record Wrote (s : State) (room : List ℕ) (b : Account) (s′ : State) : Ty
 -- more is read
 pub record Took (s : State) (input : List ℕ) (b : Account) (s′ : State) (input′ : List ℕ) : Type 0 where
   pub fed : Fed (s .standing) input b (s′ .standing) input′
-  pub is : s′ ≡ moved s (s′ .standing)
+  pub is : s′ ≡ fedOn s (s′ .standing)
 
 -- a text stands at the start of the room
 abbrev pub putting : Standing → ℕ → Standing
@@ -53,7 +53,7 @@ over x = record { at = x .at; have = x .have; put = x .put; ended = x .ended; do
 pub data Closed (why : Stop) (s : State) (room : List ℕ) : Account → State → List ℕ → Type 0 where
   broken : {a : Account} {x : Standing} → Flushed (s .standing) room a x → x .done ≡ true → Closed why s room a (moved s x) room
   last : {a b : Account} {x y : Standing} {room′ : List ℕ} (end : ℕ) → Flushed (s .standing) room a x → x .done ≡ false
-      → take end room′ ≡ lastLine why (s .standing .have - s .standing .at) (s .applied) (s .connection .growth)
+      → take end room′ ≡ lastLine why (s .standing .have - s .standing .at) (passed s) (s .applied) (s .connection .growth)
       → Flushed (putting x end) room′ b y → Closed why s room (then a b) (moved s (over y)) room′
 
 abbrev pub Closes : Stop → State → List ℕ → State → List ℕ → Type 0
@@ -123,13 +123,13 @@ pub record Started (t : Settings) (x : Standing) (input room : List ℕ) (r : Wo
   pub pool : List ℕ
   pub valid : Valid connection table links pool
   pub new : (k : Config) → checked t ≡ settings.Fine k → absOf connection table links pool ≡ initial k
-  pub ended : Ended (record { connection = connection; applied = 0; standing = x }) (lent table links pool input room) r m′
+  pub ended : Ended (record { connection = connection; applied = 0; before = 0; standing = x }) (lent table links pool input room) r m′
 
 -- the one line of a trace without an event is written, and the room holds it
 pub record OnlyLine (why : Stop) (x : Standing) (b : Account) (r : Work) (room′ : List ℕ) : Type 0 where
   pub to : Standing
   pub end : ℕ
-  pub text : take end room′ ≡ lastLine why 0 0 0
+  pub text : take end room′ ≡ lastLine why 0 0 0 0
   pub flushed : Flushed (putting x end) room′ b to
   pub work : r ≡ to .work
 
@@ -170,8 +170,9 @@ pub record Lasts (text room : List ℕ) : Type 0 where
   pub front : List ℕ
   pub why : Stop
   pub left : ℕ
+  pub byte : ℕ
   pub applied : ℕ
   pub growth : ℕ
   pub over : IsLast [] why
-  pub is : text ≡ front ++ lastLine why left applied growth
-  pub there : Prefix (lastLine why left applied growth) room
+  pub is : text ≡ front ++ lastLine why left byte applied growth
+  pub there : Prefix (lastLine why left byte applied growth) room

@@ -1,4 +1,6 @@
 // The loop of programs that play a trace: standard input in parts, and to standard output a line for each event and the last line.
+mod sizes;
+
 ghost use mathlib.Core.Path.{_≡_};
 ghost use mathlib.Core.Bool.{false};
 ghost use Prim.Native.Nat.{_≤_};
@@ -6,26 +8,25 @@ ghost use lib.ListN.{length, take};
 ghost use Rattle.connection.specs.Abstract.{Valid};
 ghost use Rattle.trace.specs.Output.{lastLine};
 ghost use Rattle.trace.specs.Turns.{Lacks, Untouched};
-ghost use Rattle.trace_play.specs.Places.{endOf, nextTask, placeOf, afterRun, Sound, Roomy, Nears, sizedFor};
+ghost use Rattle.trace_play.specs.Places.{endOf, nextTask, placeOf, afterRun, passed, Counted, Sound, Roomy, Nears, sizedFor};
 ghost use Rattle.trace_play.specs.Plays.{lent, Goes, Closes, Lines, Turns, Ended, Fitting, Started, Performs, Replays};
 use connection::Connection;
 use connection_open::Created;
 use filter::Standing;
 use filter::Work;
-use frame::header::HEADER_SIZE;
 use rules::Settings;
 use trace::Begun;
 use trace::Place;
 use trace::Report;
-use trace::SCRATCH;
 use trace::Stop;
-use trace_lines::LONGEST_LINE;
 use trace_lines::Put;
 
-// The connection, the events applied, and where the program stands in its input and its output.
+// The connection, the events applied, the bytes of the input that lie before those in the buffer, and where the program stands in its input
+// and its output.
 struct State {
     connection: Connection,
     applied: u64,
+    before: u64,
     standing: Standing,
 }
 
@@ -41,15 +42,6 @@ const ALLOWANCE: u64 = 1000000;
 // As many bytes as settings can take.
 const SETTINGS: usize = 100;
 
-// What 300 slots and a pool of 16,384 bytes take.
-const TABLE: usize = 2700;
-
-const LINKS: usize = 616;
-
-const POOL: usize = 630784;
-
-const LONGEST_EVENT: usize = 16424;
-
 // What follows a run that stopped so: lines are written where there was no room for one more, and more is read where the input goes on.
 fn next_task(stop: Stop, ended: bool) -> Task
     ensures { λ r. ⌜ r ≡ nextTask stop ended ⌝ }
@@ -64,7 +56,8 @@ fn next_task(stop: Stop, ended: bool) -> Task
         }
         Stop::Bad => Task::End,
         Stop::Spent => Task::End,
-        Stop::Refused => Task::End,
+        Stop::Wrong(_) => Task::End,
+        Stop::Size => Task::End,
     }
 }
 
@@ -79,18 +72,28 @@ fn end_of(put: Put) -> usize
 }
 
 // Puts the last line at the room's start, and returns its end.
-fn last_line(stop: Stop, left: usize, applied: u64, growth: u64, out: &mut [u8]) -> usize
+fn last_line(stop: Stop, left: usize, byte: u64, applied: u64, growth: u64, out: &mut [u8]) -> usize
     requires { ⌜ 100 ≤ length (now out) ⌝ }
-    ensures { λ r. ⌜ take r (now (out .exit)) ≡ lastLine stop left applied growth ⌝ }
+    ensures { λ r. ⌜ take r (now (out .exit)) ≡ lastLine stop left byte applied growth ⌝ }
     ensures { λ r. ⌜ r ≤ length (now (out .entry)) ⌝ }
 {
-    let put = trace::finish(out, 0, stop, left, applied, growth);
+    let put = trace::finish(out, 0, stop, left, byte, applied, growth);
     end_of(put)
+}
+
+// The bytes of the input before the place where the program stands.
+fn passed(state: State) -> u64
+    requires { ⌜ Counted state ⌝ }
+    ensures { λ r. ⌜ r ≡ passed state ⌝ }
+{
+    let standing = state.standing;
+    state.before + standing.at as u64
 }
 
 // Writes the lines that there are, and the last line.
 fn finish(state: State, stop: Stop, out: &mut [u8]) -> State
     requires { ⌜ (state .standing .at ≤ state .standing .have) × (state .standing .put ≤ length (now out)) × (100 ≤ length (now out)) × (state .standing .done ≡ false) ⌝ }
+    requires { ⌜ Counted state ⌝ }
     ensures { λ r. ⌜ Closes stop state (now (out .entry)) r (now (out .exit)) ⌝ }
 {
     let standing = state.standing;
@@ -103,7 +106,8 @@ fn finish(state: State, stop: Stop, out: &mut [u8]) -> State
     }
     let connection = state.connection;
     let left = standing.have - standing.at;
-    let put = last_line(stop, left, state.applied, connection.growth, out);
+    let byte = passed(state);
+    let put = last_line(stop, left, byte, state.applied, connection.growth, out);
     let line = Standing { put, ..flushed };
     let last = filter::flush(line, &out[..]);
     let closed = Standing { done: true, ..last };
@@ -119,8 +123,10 @@ fn go_on(state: State, stop: Stop, src: &mut [u8], out: &mut [u8]) -> State
     requires { ⌜ Roomy (length (now src)) (length (now out)) ⌝ }
     requires { ⌜ Lacks stop (state .standing .have) (state .standing .at) (length (now out)) (state .standing .put) ⌝ }
     requires { ⌜ state .standing .done ≡ false ⌝ }
+    requires { ⌜ Counted state ⌝ }
     ensures { λ r. ⌜ Sound (length (now (src .entry))) (length (now (out .entry))) (r .standing) ⌝ }
     ensures { λ r. ⌜ Nears state r ⌝ }
+    ensures { λ r. ⌜ Counted r ⌝ }
     ensures { λ r. ⌜ Goes stop state (now (src .entry)) (now (out .entry)) r (now (src .exit)) (now (out .exit)) ⌝ }
 {
     let standing = state.standing;
@@ -134,8 +140,10 @@ fn go_on(state: State, stop: Stop, src: &mut [u8], out: &mut [u8]) -> State
             }
         }
         Task::Read => {
+            let before = passed(state);
             let fed = filter::feed(standing, src);
             State {
+                before,
                 standing: fed,
                 ..state
             }
@@ -162,16 +170,17 @@ fn after_run(state: State, report: Report) -> State
 {
     let connection = report.connection;
     let here = report.place;
-    let before = state.standing;
+    let old = state.standing;
     let standing = Standing {
         at: here.at,
         put: here.put,
-        ..before
+        ..old
     };
     State {
         connection,
         applied: here.applied,
         standing,
+        ..state
     }
 }
 
@@ -190,8 +199,10 @@ fn turn(
     requires { ⌜ Roomy (length (now src)) (length (now out)) ⌝ }
     requires { ⌜ Valid (state .connection) (now table) (now links) (now pool) × (length (now sent) ≡ 12) × (length (now bytes) ≡ 16384) ⌝ }
     requires { ⌜ state .standing .done ≡ false ⌝ }
+    requires { ⌜ Counted state ⌝ }
     ensures { λ r. ⌜ Sound (length (now (src .entry))) (length (now (out .entry))) (r .standing) ⌝ }
     ensures { λ r. ⌜ Nears state r ⌝ }
+    ensures { λ r. ⌜ Counted r ⌝ }
     ensures { λ r. ⌜ Valid (r .connection) (now (table .exit)) (now (links .exit)) (now (pool .exit)) ⌝ }
     ensures { λ r. ⌜ Turns state (lent (now (table .entry)) (now (links .entry)) (now (pool .entry)) (now (src .entry)) (now (out .entry))) r (lent (now (table .exit)) (now (links .exit)) (now (pool .exit)) (now (src .exit)) (now (out .exit))) ⌝ }
 {
@@ -231,6 +242,7 @@ fn play(
     requires { ⌜ Sound (length (now src)) (length (now out)) (start .standing) ⌝ }
     requires { ⌜ Roomy (length (now src)) (length (now out)) ⌝ }
     requires { ⌜ Valid (start .connection) (now table) (now links) (now pool) × (length (now sent) ≡ 12) × (length (now bytes) ≡ 16384) ⌝ }
+    requires { ⌜ Counted start ⌝ }
     ensures { λ r. ⌜ Ended start (lent (now (table .entry)) (now (links .entry)) (now (pool .entry)) (now (src .entry)) (now (out .entry))) r (lent (now (table .exit)) (now (links .exit)) (now (pool .exit)) (now (src .exit)) (now (out .exit))) ⌝ }
 {
     let mut state = start;
@@ -248,7 +260,7 @@ fn only_line(stop: Stop, standing: Standing, out: &mut [u8]) -> Work
     requires { ⌜ 100 ≤ length (now out) ⌝ }
     ensures { λ r. ⌜ Lines stop standing r (now (out .exit)) ⌝ }
 {
-    let put = last_line(stop, 0, 0, 0, out);
+    let put = last_line(stop, 0, 0, 0, 0, out);
     let line = Standing { put, ..standing };
     let last = filter::flush(line, &out[..]);
     last.work
@@ -269,6 +281,7 @@ fn start(
     requires { ⌜ Sound (length (now src)) (length (now out)) standing ⌝ }
     requires { ⌜ Roomy (length (now src)) (length (now out)) ⌝ }
     requires { ⌜ Fitting settings (length (now table)) (length (now links)) (length (now pool)) × (length (now sent) ≡ 12) × (length (now bytes) ≡ 16384) ⌝ }
+    requires { ⌜ standing .at ≤ 100 ⌝ }
     ensures { λ r. ⌜ Started settings standing (now (src .entry)) (now (out .entry)) r (lent (now (table .exit)) (now (links .exit)) (now (pool .exit)) (now (src .exit)) (now (out .exit))) ⌝ }
 {
     let created = connection_open::new(settings, table, links, pool);
@@ -277,6 +290,7 @@ fn start(
             let state = State {
                 connection,
                 applied: 0,
+                before: 0,
                 standing,
             };
             play(state, table, links, pool, sent, bytes, src, out)
@@ -328,39 +342,6 @@ fn perform(
     }
 }
 
-// Whether what is lent is enough for 300 slots and a pool of 16,384 bytes and for the longest event and line, and is a header and the longest read.
-fn sized_for(
-    table: usize,
-    links: usize,
-    pool: usize,
-    sent: usize,
-    bytes: usize,
-    src: usize,
-    out: usize,
-) -> bool
-    ensures { λ r. ⌜ r ≡ sizedFor table links pool sent bytes src out ⌝ }
-{
-    if table < TABLE {
-        return false;
-    }
-    if links < LINKS {
-        return false;
-    }
-    if pool < POOL {
-        return false;
-    }
-    if src < LONGEST_EVENT {
-        return false;
-    }
-    if out < LONGEST_LINE {
-        return false;
-    }
-    if sent != HEADER_SIZE {
-        return false;
-    }
-    bytes == SCRATCH
-}
-
 // Plays standard input in lent memory, which is judged first. Returns the work that reads and writes did.
 pub fn replay(
     table: &mut [u64],
@@ -374,7 +355,7 @@ pub fn replay(
     ensures { λ r. ⌜ Replays (sizedFor (length (now (table .entry))) (length (now (links .entry))) (length (now (pool .entry))) (length (now (sent .entry))) (length (now (bytes .entry))) (length (now (src .entry))) (length (now (out .entry)))) (lent (now (table .entry)) (now (links .entry)) (now (pool .entry)) (now (src .entry)) (now (out .entry))) r (lent (now (table .exit)) (now (links .exit)) (now (pool .exit)) (now (src .exit)) (now (out .exit))) ⌝ }
     ensures { λ _. ⌜ Untouched (sizedFor (length (now (table .entry))) (length (now (links .entry))) (length (now (pool .entry))) (length (now (sent .entry))) (length (now (bytes .entry))) (length (now (src .entry))) (length (now (out .entry)))) (now (sent .entry)) (now (bytes .entry)) (now (sent .exit)) (now (bytes .exit)) ⌝ }
 {
-    let right = sized_for(
+    let right = sizes::sized_for(
         table.len(),
         links.len(),
         pool.len(),

@@ -1,7 +1,7 @@
 -- `trace_lines::config_line` meets its contract. Assumes nothing.
 use Prim.Native.Nat.{_+_, _≤_, _<_}
 use Rattle.trace_lines.specs.Line.{configLine}
-use Rattle.trace_lines.proofs.Stored.{writes, writes-none}
+use Rattle.trace_lines.proofs.Stored.{stores-then, writes, writes-none}
 use borrow.Author.Needs.{needs}
 use native.Mathlib.Omega.{arith}
 use lib.ListN.{length}
@@ -23,15 +23,22 @@ slice-aggregate-put-text c = search needs
 put-text-requires : tie.Need-put-text-requires
 put-text-requires c κs = search needs
 
+wide-requires : tie.Need-wide-requires
+wide-requires c κs = search needs
+
+put-number-requires : tie.Need-put-number-requires
+put-number-requires c κs = search needs
+
 same-length : tie.Need-same-length
 same-length c = search needs
 
 returns-2 : tie.Need-returns-2
 unfolding configLine
 returns-2 c =
-    let a = c .before .before .before .before .before .before .before .before .args in
+    let a = c .before .before .before .before .before .before .before .before .before .before .before .before .before .args in
     let h : a .at + 100 ≤ length (a .out .now) = omega arith in
-    writes 100 h (omega arith) (c .before .before .put-text .ensures)
+    writes 100 h (omega arith)
+    (stores-then (c .before .before .before .before .before .before .before .put-text .ensures) (rw (c .before .before .before .wide .ensures) at (c .before .before .put-number .ensures .0)))
 
 pub config-line-spec : {M : Type 1} → statement M
 config-line-spec =
@@ -41,5 +48,7 @@ config-line-spec =
     returns
     slice-aggregate-put-text
     put-text-requires
+    wide-requires
+    put-number-requires
     same-length
     returns-2)

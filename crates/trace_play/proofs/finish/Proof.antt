@@ -18,6 +18,9 @@ returns c =
 sub-left : tie.Need-sub-left
 sub-left c = search needs
 
+passed-requires : tie.Need-passed-requires
+passed-requires c κs = search needs
+
 last-line-requires : tie.Need-last-line-requires
 last-line-requires c κs = search needs
 
@@ -29,10 +32,10 @@ same-length-2 c = search needs
 
 returns-2 : tie.Need-returns-2
 returns-2 c =
-    let f = c .before .before .before .before .before .before .before .before .before .before .flush .ensures in
+    let f = c .before .before .before .before .before .before .before .before .before .before .before .flush .ensures in
     let k = c .before .before .before .before .before .last-line in
     let g = c .before .flush2 .ensures in
-    (_, last (k .result) (f .1) (c .before .before .before .before .before .before .before .before .before .if1 .left) (k .ensures .0) (g .1))
+    (_, last (k .result) (f .1) (c .before .before .before .before .before .before .before .before .before .before .if1 .left) (rw (c .before .before .before .before .before .before .before .passed .ensures) at (k .ensures .0)) (g .1))
 
 pub finish-spec : {M : Type 1} → statement M
 finish-spec =
@@ -42,6 +45,7 @@ finish-spec =
     same-length
     returns
     sub-left
+    passed-requires
     last-line-requires
     flush-requires-2
     same-length-2

@@ -17,6 +17,9 @@ flush-requires c κs = search needs
 enum-told-2 : tie.Need-enum-told-2
 enum-told-2 c = search needs
 
+passed-requires : tie.Need-passed-requires
+passed-requires c κs = search needs
+
 feed-requires : tie.Need-feed-requires
 feed-requires c κs = search needs
 
@@ -33,16 +36,17 @@ returns : tie.Need-returns
 returns c =
     let a = c .before .before .before .before .before .before .before .before .before .args in
     let p = c .before .before .before .before .before .before .before .before .before .pre in
-    write-acts (a .state) (a .stop) (a .src .now) (a .out .now) (p .0) (p .1 .0) (p .1 .1 .0) (p .1 .1 .1) (sym (c .before .before .before .before .before .next-task .ensures) ∙ c .before .before .before .enum-told .given .1) (c .before .flush .ensures .1)
+    write-acts (a .state) (a .stop) (a .src .now) (a .out .now) (p .0) (p .1 .0) (p .1 .1 .0) (p .1 .1 .1 .0) (p .1 .1 .1 .1) (sym (c .before .before .before .before .before .next-task .ensures) ∙ c .before .before .before .enum-told .given .1) (c .before .flush .ensures .1)
 
 same-length-2 : tie.Need-same-length-2
 same-length-2 c = search needs
 
 returns-2 : tie.Need-returns-2
 returns-2 c =
-    let a = c .before .before .before .before .before .before .before .before .before .before .before .args in
-    let p = c .before .before .before .before .before .before .before .before .before .before .before .pre in
-    read-acts (a .state) (a .stop) (a .src .now) (a .out .now) (p .0) (p .1 .0) (p .1 .1 .0) (p .1 .1 .1) (sym (c .before .before .before .before .before .before .before .next-task .ensures) ∙ c .before .before .before .before .before .enum-told2 .given .1) (c .before .before .before .feed .ensures .1)
+    let a = c .before .before .before .before .before .before .before .before .before .before .before .before .args in
+    let p = c .before .before .before .before .before .before .before .before .before .before .before .before .pre in
+    rw (c .before .before .before .before .before .passed .ensures)
+    (read-acts (a .state) (a .stop) (a .src .now) (a .out .now) (p .0) (p .1 .0) (p .1 .1 .0) (p .1 .1 .1 .0) (p .1 .1 .1 .1) (sym (c .before .before .before .before .before .before .before .before .next-task .ensures) ∙ c .before .before .before .before .before .before .enum-told2 .given .1) (c .before .before .before .feed .ensures .1))
 
 same-length-3 : tie.Need-same-length-3
 same-length-3 c = search needs
@@ -51,7 +55,7 @@ returns-3 : tie.Need-returns-3
 returns-3 c =
     let a = c .before .before .before .before .before .before .before .before .before .before .args in
     let p = c .before .before .before .before .before .before .before .before .before .before .pre in
-    end-acts (a .state) (a .stop) (a .src .now) (a .out .now) (p .0) (p .1 .0) (p .1 .1 .0) (p .1 .1 .1) (sym (c .before .before .before .before .before .before .next-task .ensures) ∙ c .before .before .before .before .enum-told3 .given .1) (c .before .before .finish .ensures .1)
+    end-acts (a .state) (a .stop) (a .src .now) (a .out .now) (p .0) (p .1 .0) (p .1 .1 .0) (p .1 .1 .1 .0) (p .1 .1 .1 .1) (sym (c .before .before .before .before .before .before .next-task .ensures) ∙ c .before .before .before .before .enum-told3 .given .1) (c .before .before .finish .ensures .1)
 
 pub go-on-spec : {M : Type 1} → statement M
 go-on-spec =
@@ -61,6 +65,7 @@ go-on-spec =
     enum-told
     flush-requires
     enum-told-2
+    passed-requires
     feed-requires
     enum-told-3
     finish-requires

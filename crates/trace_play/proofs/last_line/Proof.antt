@@ -17,7 +17,7 @@ returns : tie.Need-returns
 returns c =
     let s = c .before .before .before .before .before .before in
     let k = c .before .before .before .finish in
-    rw (c .end-of .ensures) (line-put (s .args .stop) (s .args .left) (s .args .applied) (s .args .growth) (s .args .out .now) (k .last .0) (k .result) (s .pre) (k .kept .0) (k .ensures))
+    rw (c .end-of .ensures) (line-put (s .args .stop) (s .args .left) (s .args .byte) (s .args .applied) (s .args .growth) (s .args .out .now) (k .last .0) (k .result) (s .pre) (k .kept .0) (k .ensures))
 
 pub last-line-spec : {M : Type 1} → statement M
 last-line-spec = tie.close (tie.spec finish-requires end-of-requires same-length returns)

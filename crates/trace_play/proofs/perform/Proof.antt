@@ -1,6 +1,5 @@
 -- `trace_play::perform` meets its contract: what the settings ask for is there. Assumes nothing.
-use mathlib.Core.Path.{_≡_, sym, ap, _∙_}
-use mathlib.Core.Bool.{false}
+use mathlib.Core.Path.{sym, ap, _∙_}
 use Prim.Native.Nat.{_≤_}
 use native.Mathlib.Omega.{arith}
 use lib.ListN.{length, take}
@@ -83,7 +82,7 @@ start-requires c κs =
       (omega (arith, ready b .inside, n), inside (c .before .before .before .before .before .before .before .before .before .before .before .before .before .before .before), omega (arith, e)),
       (
         (omega (arith, p .5 .0, k .kept .0), p .5 .1),
-        (fitting (ready b) (a .table .now) (a .links .now) (a .pool .now) (fits b .0) (fits b .1) (fits b .2), p .3, p .4),
+        ((fitting (ready b) (a .table .now) (a .links .now) (a .pool .now) (fits b .0) (fits b .1) (fits b .2), p .3, p .4), ready b .brief),
       ),
     )
 

@@ -4,13 +4,12 @@ use mathlib.Core.Path.{_≡_, refl, sym, _∙_}
 use lib.ListN.{length}
 use Rattle.connection.specs.Abstract.{Valid}
 use Rattle.filter.specs.Account.{Account, nothing}
-use Rattle.trace_play.specs.Places.{Sound, Roomy}
+use Rattle.trace_play.specs.Places.{Counted, Sound, Roomy}
 use Rattle.trace_play.specs.Plays.{Lent, lent, Plays, none, more}
 use Rattle.trace_play.specs.declared.State.{State}
 use Rattle.trace_play.proofs.Nearing.{turnsLeft, sinks}
 use borrow.Author.Tests.{not-true, not-false}
 use native.Mathlib.Omega.{arith}
-use borrow.Author.Needs.{needs}
 use Rattle.trace_play.proofs.play.Statement.{statement}
 use Rattle.trace_play.proofs.play.Tie as tie
 
@@ -33,6 +32,7 @@ Inv-loop table₀ links₀ pool₀ sent₀ bytes₀ src₀ out₀ state₀ done�
     × (length bytes ≡ length bytes₀)
     × (length src ≡ length src₀)
     × (length out ≡ length out₀)
+    × Counted state
 
 abbrev μ-loop : tie.MeasureT-loop
 μ-loop table₀ links₀ pool₀ sent₀ bytes₀ src₀ out₀ state₀ done₀ table links pool sent bytes src out state done = turnsLeft state
@@ -40,12 +40,12 @@ abbrev μ-loop : tie.MeasureT-loop
 loop-holds : tie.Need-loop-holds Inv-loop μ-loop
 loop-holds c =
     let p = c .before .before .before .before .before .before .before .pre in
-    (p .0, p .1 .0, p .1 .1 .0, p .1 .1 .1, p .1 .1 .2, refl, (nothing, none), refl, refl, refl, refl, refl, refl, refl)
+    (p .0, p .1 .0, p .1 .1 .0 .0, p .1 .1 .0 .1, p .1 .1 .0 .2, refl, (nothing, none), refl, refl, refl, refl, refl, refl, refl, p .1 .1 .1)
 
 turn-requires : tie.Need-turn-requires Inv-loop μ-loop
 turn-requires c κs =
     let v = c .before .before .before .before .before .before .before .before .loop .inv in
-    (v .0, (v .1, ((v .2, v .3, v .4), sym (v .5) ∙ not-true _ (c .before .before .before .before .before .before .before .loop-test .taken))))
+    (v .0, (v .1, ((v .2, v .3, v .4), (sym (v .5) ∙ not-true _ (c .before .before .before .before .before .before .before .loop-test .taken), v .14))))
 
 loop-less : tie.Need-loop-less Inv-loop μ-loop
 loop-less c =
@@ -59,11 +59,11 @@ loop-again c =
     let v = c .before .before .before .before .before .before .before .before .before .before .before .before .before .before .before .before .before .before .before .before .before .before .before .loop .inv in (
       (k .ensures .0 .0, omega (arith, k .ensures .0 .1, k .kept .1 .1 .1 .1 .1 .1 .0), omega (arith, k .ensures .0 .2, k .kept .1 .1 .1 .1 .1 .1 .1 .0)),
       (omega (arith, v .1 .0, k .kept .1 .1 .1 .1 .1 .1 .0), omega (arith, v .1 .1, k .kept .1 .1 .1 .1 .1 .1 .1 .0)),
-      k .ensures .1 .1 .0,
+      k .ensures .1 .1 .1 .0,
       k .kept .1 .1 .1 .1 .0 ∙ v .3,
       k .kept .1 .1 .1 .1 .1 .0 ∙ v .4,
       refl,
-      (_, more (v .6 .1) (k .ensures .1 .1 .1 .1)),
+      (_, more (v .6 .1) (k .ensures .1 .1 .1 .1 .1)),
       k .kept .1 .0 ∙ v .7,
       k .kept .1 .1 .0 ∙ v .8,
       k .kept .1 .1 .1 .0 ∙ v .9,
@@ -71,6 +71,7 @@ loop-again c =
       k .kept .1 .1 .1 .1 .1 .0 ∙ v .11,
       k .kept .1 .1 .1 .1 .1 .1 .0 ∙ v .12,
       k .kept .1 .1 .1 .1 .1 .1 .1 .0 ∙ v .13,
+      k .ensures .1 .1 .0,
     )
 
 same-length : tie.Need-same-length Inv-loop μ-loop

@@ -1,5 +1,6 @@
 -- `trace_play::start` meets its contract: the settings make a connection. Assumes nothing.
 use Rattle.trace_play.proofs.Starting.{made-valid, made-new, never-wrong, never-size}
+use native.Mathlib.Omega.{arith}
 use borrow.Author.Needs.{needs}
 use Rattle.trace_play.proofs.start.Statement.{statement}
 use Rattle.trace_play.proofs.start.Tie as tie
@@ -15,7 +16,7 @@ play-requires c κs =
     let a = c .before .before .before .before .before .before .before .before .before .before .before .before .before .before .before .before .before .before .before .before .before .before .before .before .before .before .before .args in
     let p = c .before .before .before .before .before .before .before .before .before .before .before .before .before .before .before .before .before .before .before .before .before .before .before .before .before .before .before .pre in
     let k = c .before .before .before .before .before .before .before .before .before .before .before .before .before .before .before .before .new in
-    (p .0, (p .1 .0, (made-valid (a .settings) (a .table .now) (a .links .now) (a .pool .now) (p .1 .1 .0) (k .result) _ _ _ (k .ensures) _ (c .before .before .before .before .before .before .before .before .created .given .1), p .1 .1 .1, p .1 .1 .2)))
+    (p .0, (p .1 .0, ((made-valid (a .settings) (a .table .now) (a .links .now) (a .pool .now) (p .1 .1 .0 .0) (k .result) _ _ _ (k .ensures) _ (c .before .before .before .before .before .before .before .before .created .given .1), p .1 .1 .0 .1, p .1 .1 .0 .2), (omega (arith, p .1 .1 .1), omega arith))))
 
 enum-told : tie.Need-enum-told
 enum-told c = search needs
@@ -49,7 +50,7 @@ returns c =
     let a = c .before .before .before .before .before .before .before .before .before .before .before .before .before .before .before .before .before .before .before .before .before .before .before .before .before .before .before .before .before .before .before .before .before .before .before .before .before .before .before .before .before .before .args in
     let p = c .before .before .before .before .before .before .before .before .before .before .before .before .before .before .before .before .before .before .before .before .before .before .before .before .before .before .before .before .before .before .before .before .before .before .before .before .before .before .before .before .before .before .pre in
     let k = c .before .before .before .before .before .before .before .before .before .before .before .before .before .before .before .before .before .before .before .before .before .before .before .before .before .before .before .before .before .before .before .new in
-    record { connection = _; table = _; links = _; pool = _; valid = made-valid (a .settings) (a .table .now) (a .links .now) (a .pool .now) (p .1 .1 .0) (k .result) _ _ _ (k .ensures) _ (c .before .before .before .before .before .before .before .before .before .before .before .before .before .before .before .before .before .before .before .before .before .before .before .created .given .1); new = made-new (a .settings) (a .table .now) (a .links .now) (a .pool .now) (p .1 .1 .0) (k .result) _ _ _ (k .ensures) _ (c .before .before .before .before .before .before .before .before .before .before .before .before .before .before .before .before .before .before .before .before .before .before .before .created .given .1); ended = c .before .before .before .before .before .before .before .before .before .before .before .before .before .before .play .ensures }
+    record { connection = _; table = _; links = _; pool = _; valid = made-valid (a .settings) (a .table .now) (a .links .now) (a .pool .now) (p .1 .1 .0 .0) (k .result) _ _ _ (k .ensures) _ (c .before .before .before .before .before .before .before .before .before .before .before .before .before .before .before .before .before .before .before .before .before .before .before .created .given .1); new = made-new (a .settings) (a .table .now) (a .links .now) (a .pool .now) (p .1 .1 .0 .0) (k .result) _ _ _ (k .ensures) _ (c .before .before .before .before .before .before .before .before .before .before .before .before .before .before .before .before .before .before .before .before .before .before .before .created .given .1); ended = c .before .before .before .before .before .before .before .before .before .before .before .before .before .before .play .ensures }
 
 same-length-8 : tie.Need-same-length-8
 same-length-8 c = search needs
@@ -65,7 +66,7 @@ returns-2 c =
     let a = c .before .before .before .before .before .before .before .before .before .before .before .before .before .before .before .before .before .before .before .args in
     let p = c .before .before .before .before .before .before .before .before .before .before .before .before .before .before .before .before .before .before .before .pre in
     let k = c .before .before .before .before .before .before .before .before .new in
-    absurd (never-wrong (a .settings) (a .table .now) (a .links .now) (a .pool .now) (p .1 .1 .0) (k .result) _ _ _ (k .ensures) _ (c .enum-told .given .1))
+    absurd (never-wrong (a .settings) (a .table .now) (a .links .now) (a .pool .now) (p .1 .1 .0 .0) (k .result) _ _ _ (k .ensures) _ (c .enum-told .given .1))
 
 same-length-11 : tie.Need-same-length-11
 same-length-11 c = search needs
@@ -81,7 +82,7 @@ returns-3 c =
     let a = c .before .before .before .before .before .before .before .before .before .before .before .before .before .before .before .before .before .before .before .args in
     let p = c .before .before .before .before .before .before .before .before .before .before .before .before .before .before .before .before .before .before .before .pre in
     let k = c .before .before .before .before .before .before .before .before .new in
-    absurd (never-size (a .settings) (a .table .now) (a .links .now) (a .pool .now) (p .1 .1 .0) (k .result) _ _ _ (k .ensures) (c .enum-told2 .given .1))
+    absurd (never-size (a .settings) (a .table .now) (a .links .now) (a .pool .now) (p .1 .1 .0 .0) (k .result) _ _ _ (k .ensures) (c .enum-told2 .given .1))
 
 pub start-spec : {M : Type 1} → statement M
 start-spec =

@@ -1,8 +1,8 @@
 -- `trace_play::turn` meets its contract: a run, and what follows it. Assumes nothing.
-use mathlib.Core.Path.{sym, _∙_}
+use mathlib.Core.Path.{sym}
 use native.Mathlib.Omega.{arith}
 use lib.Seq.{length-take-le}
-use Rattle.trace_play.proofs.Turning.{after-sound, after-lacks, turned}
+use Rattle.trace_play.proofs.Turning.{after-sound, after-counted, after-lacks, turned}
 use borrow.Author.Needs.{needs}
 use Rattle.trace_play.proofs.turn.Statement.{statement}
 use Rattle.trace_play.proofs.turn.Tie as tie
@@ -29,7 +29,7 @@ go-on-requires c κs =
     let k = c .before .before .before .before .before .before .before .before .before .before .before .before .before .before .before .run in
     let r = rw (c .before .before .before .before .before .before .before .before .before .before .before .before .before .before .before .before .before .before .before .before .before .before .before .place-of .ensures) at (k .ensures .0) in
     let size = k .kept .1 .1 .1 .1 .1 .1 .1 .0 in
-    rw (c .before .before .after-run .ensures) (after-sound (a .state) (a .table .now) (a .links .now) (a .pool .now) (a .sent .now) (a .bytes .now) (a .src .now) (a .out .now) (p .0) (p .1 .1 .0 .0) (p .1 .1 .0 .1) (p .1 .1 .0 .2) (p .1 .1 .1) (k .result) _ _ _ _ size r, ((p .1 .0 .0, omega (arith, p .1 .0 .1, size)), (after-lacks (a .state) (a .table .now) (a .links .now) (a .pool .now) (a .sent .now) (a .bytes .now) (a .src .now) (a .out .now) (p .0) (p .1 .1 .0 .0) (p .1 .1 .0 .1) (p .1 .1 .0 .2) (p .1 .1 .1) (k .result) _ _ _ _ size r, p .1 .1 .1)))
+    rw (c .before .before .after-run .ensures) (after-sound (a .state) (a .table .now) (a .links .now) (a .pool .now) (a .sent .now) (a .bytes .now) (a .src .now) (a .out .now) (p .0) (p .1 .1 .0 .0) (p .1 .1 .0 .1) (p .1 .1 .0 .2) (p .1 .1 .1 .0) (p .1 .1 .1 .1) (k .result) _ _ _ _ size r, ((p .1 .0 .0, omega (arith, p .1 .0 .1, size)), (after-lacks (a .state) (a .table .now) (a .links .now) (a .pool .now) (a .sent .now) (a .bytes .now) (a .src .now) (a .out .now) (p .0) (p .1 .1 .0 .0) (p .1 .1 .0 .1) (p .1 .1 .0 .2) (p .1 .1 .1 .0) (p .1 .1 .1 .1) (k .result) _ _ _ _ size r, (p .1 .1 .1 .0, after-counted (a .state) (a .table .now) (a .links .now) (a .pool .now) (a .sent .now) (a .bytes .now) (a .src .now) (a .out .now) (p .0) (p .1 .1 .0 .0) (p .1 .1 .0 .1) (p .1 .1 .0 .2) (p .1 .1 .1 .0) (p .1 .1 .1 .1) (k .result) _ _ _ _ size r))))
 
 same-length : tie.Need-same-length
 same-length c = c .before .before .before .before .before .before .before .before .before .before .before .before .before .before .before .before .before .before .before .before .run .kept .1 .0
@@ -61,7 +61,7 @@ returns c =
     let size = k .kept .1 .1 .1 .1 .1 .1 .1 .0 in
     let g = c .before .before .before .before .go-on in
     let e = rw (c .before .before .before .before .before .before .before .after-run .ensures) at (g .ensures) in
-    turned (a .state) (a .table .now) (a .links .now) (a .pool .now) (a .sent .now) (a .bytes .now) (a .src .now) (a .out .now) (p .0) (p .1 .1 .0 .0) (p .1 .1 .0 .1) (p .1 .1 .0 .2) (p .1 .1 .1) (k .result) _ _ _ _ size r (g .result) _ _ (e .0) (e .1 .0) (e .1 .1)
+    turned (a .state) (a .table .now) (a .links .now) (a .pool .now) (a .sent .now) (a .bytes .now) (a .src .now) (a .out .now) (p .0) (p .1 .1 .0 .0) (p .1 .1 .0 .1) (p .1 .1 .0 .2) (p .1 .1 .1 .0) (p .1 .1 .1 .1) (k .result) _ _ _ _ size r (g .result) _ _ (e .0) (e .1 .0) (e .1 .1 .0) (e .1 .1 .1)
 
 pub turn-spec : {M : Type 1} → statement M
 turn-spec =

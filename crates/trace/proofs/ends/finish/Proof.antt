@@ -35,11 +35,23 @@ end-line-requires-2 c κs = search needs
 enum-told-4 : tie.Need-enum-told-4
 enum-told-4 c = search needs
 
-enum-told-5 : tie.Need-enum-told-5
-enum-told-5 c = search needs
+enum-known-stop : tie.Need-enum-known-stop
+enum-known-stop c = search needs
+
+number-requires : tie.Need-number-requires
+number-requires c κs = search needs
 
 config-line-requires : tie.Need-config-line-requires
 config-line-requires c κs = search needs
+
+enum-told-5 : tie.Need-enum-told-5
+enum-told-5 c = search needs
+
+number-requires-2 : tie.Need-number-requires-2
+number-requires-2 c κs = search needs
+
+config-line-requires-2 : tie.Need-config-line-requires-2
+config-line-requires-2 c κs = search needs
 
 same-length-2 : tie.Need-same-length-2
 same-length-2 c = search needs
@@ -66,7 +78,13 @@ same-length-5 : tie.Need-same-length-5
 same-length-5 c = search needs
 
 returns-6 : tie.Need-returns-6
-returns-6 c = rw (c .before .before .before .before .enum-told5 .given .1) (c .before .before .config-line .ensures)
+returns-6 c = rw (c .before .before .before .before .before .before .stop .given .1) (rw (c .before .before .before .number .ensures) at (c .before .before .config-line .ensures))
+
+same-length-6 : tie.Need-same-length-6
+same-length-6 c = search needs
+
+returns-7 : tie.Need-returns-7
+returns-7 c = rw (c .before .before .before .before .before .enum-told5 .given .1) (rw (c .before .before .before .number2 .ensures) at (c .before .before .config-line2 .ensures))
 
 pub finish-spec : {M : Type 1} → statement M
 finish-spec =
@@ -82,8 +100,12 @@ finish-spec =
     enum-told-3
     end-line-requires-2
     enum-told-4
-    enum-told-5
+    enum-known-stop
+    number-requires
     config-line-requires
+    enum-told-5
+    number-requires-2
+    config-line-requires-2
     same-length-2
     returns-2
     same-length-3
@@ -92,4 +114,6 @@ finish-spec =
     returns-4
     returns-5
     same-length-5
-    returns-6)
+    returns-6
+    same-length-6
+    returns-7)

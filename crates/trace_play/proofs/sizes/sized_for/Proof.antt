@@ -1,7 +1,7 @@
--- `trace_play::sized_for` meets its contract. Assumes nothing.
+-- `trace_play::sizes::sized_for` meets its contract. Assumes nothing.
 use borrow.Author.Tests.{le-leb, lt-leb, eq-eqb, ne-eqb}
-use Rattle.trace_play.proofs.sized_for.Statement.{statement}
-use Rattle.trace_play.proofs.sized_for.Tie as tie
+use Rattle.trace_play.proofs.sizes.sized_for.Statement.{statement}
+use Rattle.trace_play.proofs.sizes.sized_for.Tie as tie
 
 returns : tie.Need-returns
 returns c = let a = c .before .args in rw (lt-leb 2700 (a .table) (c .if1 .taken))
