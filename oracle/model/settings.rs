@@ -1,4 +1,4 @@
-//! Document 01, section "Settings".
+//! Document 01, section "Settings", with the numbers of M-100.
 
 use super::{CREDIT, TOP, TOP_TIME};
 
@@ -49,17 +49,20 @@ impl Settings {
         Settings { mode, streams, limit, read_after_close, split, interval, first_time, first_ping, slots, pool }
     }
 
-    pub fn good(&self, b: Bounds) -> bool {
-        self.mode <= 1
-            && self.streams <= 512
-            && self.limit >= self.streams * CREDIT
-            && self.read_after_close <= 1
-            && (1..=TOP).contains(&self.split)
-            && (1..=TOP_TIME).contains(&self.interval)
-            && self.first_time <= TOP_TIME
-            && self.first_ping <= TOP
-            && (1..=b.slots).contains(&self.slots)
-            && self.slots >= self.streams
-            && self.pool <= b.pool
+    /// The number of the first wrong one, in the order in which they are read: 21 for the mode to 30 for the pool.
+    pub fn wrong(&self, b: Bounds) -> Option<u64> {
+        let right = [
+            self.mode <= 1,
+            self.streams <= 512,
+            self.limit >= self.streams.saturating_mul(CREDIT),
+            self.read_after_close <= 1,
+            (1..=TOP).contains(&self.split),
+            (1..=TOP_TIME).contains(&self.interval),
+            self.first_time <= TOP_TIME,
+            self.first_ping <= TOP,
+            (1..=b.slots).contains(&self.slots) && self.slots >= self.streams,
+            self.pool <= b.pool,
+        ];
+        (21..).zip(right).find(|(_, right)| !right).map(|(number, _)| number)
     }
 }

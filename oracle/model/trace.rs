@@ -109,16 +109,17 @@ pub fn line(a: &Answer) -> String {
 /// What `replay` prints for the trace. With `bodies`, a line `body HEX` follows that of each written frame.
 pub fn run(trace: &[u8], bounds: Bounds, next_id: Option<u32>, bodies: bool) -> String {
     let mut input = Input { rest: trace, bounds };
-    let Some(settings) = input.settings() else { return "bad 0\n".into() };
-    if !settings.good(bounds) {
-        return "config 14\n".into();
+    let Some(settings) = input.settings() else { return "bad 0 0\n".into() };
+    if let Some(number) = settings.wrong(bounds) {
+        return format!("config {number}\n");
     }
     let mut connection = Connection::new(settings, next_id);
     let mut out = String::new();
     let mut applied = 0;
     while applied < ALLOWANCE && !input.rest.is_empty() {
+        let start = trace.len() - input.rest.len();
         let Some((time, event)) = input.event() else {
-            let _ = writeln!(out, "bad {applied}");
+            let _ = writeln!(out, "bad {applied} {start}");
             return out;
         };
         let answer = connection.step(time, &event);
@@ -138,6 +139,13 @@ fn put_number(out: &mut Vec<u8>, mut n: u64) {
         n >>= 7;
     }
     out.push(n as u8);
+}
+
+/// A number in its shortest groups.
+pub fn number(n: u64) -> Vec<u8> {
+    let mut out = Vec::new();
+    put_number(&mut out, n);
+    out
 }
 
 /// The settings as a trace starts with them.

@@ -338,7 +338,7 @@ pub fn run(bytes: &[u8], options: &Options) -> String {
 pub fn run_into(trace: impl io::BufRead, options: &Options, out: &mut impl io::Write) -> io::Result<()> {
     let mut written = Ok(());
     let mut applied = 0;
-    let mut input = Input { rest: trace, bound: if options.wide { 1 << 24 } else { 16_384 } };
+    let mut input = Input::new(trace, if options.wide { 1 << 24 } else { 16_384 });
     let result = (|| {
         let settings = Settings::read(&mut input, options)?;
         let mut run = Run::new(&settings, options.next_id);
@@ -362,7 +362,7 @@ pub fn run_into(trace: impl io::BufRead, options: &Options, out: &mut impl io::W
     written?;
     match result {
         Ok(growth) => writeln!(out, "end {applied} {growth}"),
-        Err(Stop::Bad) => writeln!(out, "bad {applied}"),
+        Err(Stop::Bad) => writeln!(out, "bad {applied} {}", input.start),
         Err(Stop::Unsupported(s)) => writeln!(out, "oracle-unsupported {} {s}", applied + 1),
         Err(Stop::Surprise(s)) => writeln!(out, "oracle-surprise {} {s}", applied + 1),
     }

@@ -113,7 +113,10 @@ fn check_loose(bytes: &[u8], program: &str, tally: &mut Tally) {
     tally.traces += 1;
     tally.events += left.lines().count() as u64 - 1;
     for line in left.lines() {
-        let word = line.split(' ').nth(usize::from(line.as_bytes()[0].is_ascii_digit())).unwrap_or("");
+        let word = match line.split(' ').nth(usize::from(line.as_bytes()[0].is_ascii_digit())) {
+            Some("config") => line,
+            word => word.unwrap_or(""),
+        };
         *tally.replies.entry(('*', word.into())).or_default() += 1;
     }
     if left == right {

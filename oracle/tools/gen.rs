@@ -1,5 +1,5 @@
-//! Seeded traces that the original can follow: no reply 7 to 10, 13 or 14, and a tick before each event at whose time
-//! a ping is due. The model tells both, and the state that the choices lean on.
+//! Seeded traces that the original can follow: settings within their bounds, no reply 7 to 10 or 13, and a tick before each
+//! event at whose time a ping is due. The model tells both, and the state that the choices lean on.
 
 use crate::model::{
     header, trace, Connection, Event, Settings, State, Stream, ACK, CREDIT, FIN, RST, SYN, TOP, TOP_TIME,
@@ -59,7 +59,7 @@ pub fn is_followed(trace: &Trace) -> bool {
 }
 
 fn is_left_out(reply: u8) -> bool {
-    matches!(reply, 7..=10 | 13 | 14)
+    matches!(reply, 7..=10 | 13)
 }
 
 /// What a trace is mostly about.

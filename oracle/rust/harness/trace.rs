@@ -18,16 +18,27 @@ pub(super) enum Event {
 }
 
 pub(super) struct Input<R> {
-    pub(super) rest: R,
+    rest: R,
     /// Bound on counts and bodies.
-    pub(super) bound: u64,
+    bound: u64,
+    /// Bytes taken.
+    taken: u64,
+    /// Where the settings or the last event starts.
+    pub(super) start: u64,
 }
 
 impl<R: BufRead> Input<R> {
+    pub(super) fn new(rest: R, bound: u64) -> Self {
+        Input { rest, bound, taken: 0, start: 0 }
+    }
+
     fn fill(&mut self, to: &mut [u8]) -> Result<(), Stop> {
         match self.rest.read_exact(to) {
             Err(e) if e.kind() == ErrorKind::UnexpectedEof => Err(Stop::Bad),
-            done => Ok(done.expect("the trace")),
+            done => {
+                self.taken += to.len() as u64;
+                Ok(done.expect("the trace"))
+            }
         }
     }
 
@@ -72,6 +83,7 @@ impl<R: BufRead> Input<R> {
         if self.rest.fill_buf().expect("the trace").is_empty() {
             return Ok(None);
         }
+        self.start = self.taken;
         let kind = self.number()?;
         if kind > 7 {
             return Err(Stop::Bad);
@@ -141,7 +153,7 @@ impl Settings {
             && slots >= streams
             && pool <= top_pool;
         if !good {
-            return unsupported("settings, reply 14");
+            return unsupported("settings, reply 21 to 30");
         }
         Ok(Settings {
             mode: if mode == 0 { Mode::Client } else { Mode::Server },
