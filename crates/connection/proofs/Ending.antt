@@ -12,7 +12,7 @@ use Rattle.rules.specs.declared.Reply.{Reply}
 use Rattle.memory.specs.Moves.{Ends}
 use Rattle.memory.specs.Slots.{slotsOf}
 use Rattle.memory.specs.declared.Memory.{Memory}
-use Rattle.memory.proofs.Laws.{never}
+use Rattle.rules.proofs.Lists.{never}
 use Rattle.connection.specs.Abstract.{absOf, Valid}
 use Rattle.connection.specs.Parts.{rebuilt, answered}
 use Rattle.connection.specs.Promises.{bareAnswer, Follows, Over}

@@ -8,7 +8,7 @@ use Rattle.stream.specs.declared.Stream.{Stream}
 use Rattle.rules.specs.State.{Entry, entry, isOwn}
 use Rattle.rules.specs.declared.Mode.{Mode}
 use Rattle.memory.specs.Moves.{held, Follows}
-use Rattle.memory.proofs.Laws.{never}
+use Rattle.rules.proofs.Lists.{never}
 
 -- an own id in the table is below n
 abbrev pub Kept : Mode → ℕ → Entry → Type 0

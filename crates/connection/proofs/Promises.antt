@@ -11,7 +11,7 @@ use Rattle.rules.specs.Step.{Call, step, read}
 use Rattle.rules.specs.declared.Reply.{Reply}
 use Rattle.rules.specs.declared.Reply.the-variants as reply
 use Rattle.rules.proofs.Counts.{read-counts}
-use Rattle.memory.proofs.Laws.{never}
+use Rattle.rules.proofs.Lists.{never}
 use Rattle.memory.proofs.Starts.{nothing-advances}
 use Rattle.connection.specs.Abstract.{absOf, Valid}
 use Rattle.connection.specs.Promises.{refused, Gives, Follows, Handles, Promised}

@@ -25,7 +25,8 @@ use Rattle.memory.specs.Moves.{Becomes, Frees}
 use Rattle.memory.specs.Moves as memory
 use Rattle.memory.specs.Slots.{slotsOf}
 use Rattle.memory.specs.declared.Memory.{Memory}
-use Rattle.memory.proofs.Laws.{never, entry-held, find-slots, find-at}
+use Rattle.rules.proofs.Lists.{never}
+use Rattle.memory.proofs.Laws.{entry-held, find-slots, find-at}
 use Rattle.memory.proofs.Starts.{part-kept, then-becomes}
 use Rattle.connection.specs.Abstract.{absOf, Valid}
 use Rattle.connection.specs.Parts.{rebuilt, answered, handleOf, Holds}

@@ -21,7 +21,8 @@ use Rattle.handlers.proofs.Rules.{stream-performs}
 use Rattle.memory.specs.Moves.{Moved, held, Follows}
 use Rattle.memory.specs.Slots.{slotsOf}
 use Rattle.memory.specs.declared.Memory.{Memory}
-use Rattle.memory.proofs.Laws.{never, listed-held}
+use Rattle.rules.proofs.Lists.{never}
+use Rattle.memory.proofs.Laws.{listed-held}
 use Rattle.connection.specs.Abstract.{absOf, Valid}
 use Rattle.connection.specs.Promises.{Handles}
 use Rattle.connection.specs.declared.Connection.{Connection}

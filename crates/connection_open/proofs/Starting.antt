@@ -21,8 +21,8 @@ use Rattle.memory.specs.Moves.{Starts}
 use Rattle.memory.specs.Slots.{slotsOf, Sized}
 use Rattle.memory.specs.declared.Memory.{Memory}
 use Rattle.rules.proofs.Judging.{numbers-beyond, all-hold, wrong-named, none-named}
-use Rattle.rules.proofs.Lists.{both, split}
-use Rattle.memory.proofs.Laws.{never, fits-sized}
+use Rattle.rules.proofs.Lists.{never, both, split}
+use Rattle.memory.proofs.Laws.{fits-sized}
 use Rattle.connection.specs.Abstract.{absOf, Fresh}
 use Rattle.connection_open.specs.Start.{number, sized, started, Begins, Ranged, Lays, Creates, Numbers}
 use Rattle.connection_open.specs.declared.Created.{Created}

@@ -14,7 +14,7 @@ use Rattle.handlers.specs.declared.ReadStep.{ReadStep}
 use Rattle.memory.specs.Moves.{held, Drained, Drains}
 use Rattle.memory.specs.Slots.{slotsOf}
 use Rattle.memory.specs.declared.Memory.{Memory}
-use Rattle.memory.proofs.Laws.{never}
+use Rattle.rules.proofs.Lists.{never}
 use Rattle.connection.specs.Abstract.{absOf, Valid}
 use Rattle.connection.specs.Parts.{rebuilt, answered}
 use Rattle.connection.specs.Promises.{Follows}

@@ -27,7 +27,7 @@ use Rattle.table.specs.Rows.{Proper, blank}
 use Rattle.table.specs.Table.{size, rowAt, view, stored, inserted, Tied, Distinct, nth}
 use Rattle.table.specs.declared.row.Row.{Row}
 use Rattle.table.proofs.Laws.{length-view, nth-view, proper-row, length-stored, length-inserted, view-stored, tied-stored, view-inserted, tied-inserted}
-use Rattle.rules.proofs.Lists.{Says, first-says, sum-set, sum-at}
+use Rattle.rules.proofs.Lists.{never, Says, first-says, sum-set, sum-at}
 use Rattle.table.proofs.Packing.{proper-rowOf}
 use Rattle.table.proofs.Searches.{distinct-set}
 use Rattle.memory.specs.Counts.{left, next, counted}
@@ -36,7 +36,7 @@ use Rattle.memory.specs.Slots.{queues, entryOf, entries, slotsOf, Valid}
 use Rattle.memory.specs.declared.Memory.{Memory}
 use Rattle.memory.proofs.Lists.{queues-set, length-queues, nth-queues, length-contents, entries-set}
 use Rattle.memory.proofs.Starts.{advanced, stays, starts-low, queue-stays}
-use Rattle.memory.proofs.Laws.{never, entry-held, entry-of-held, entry-of-free, entry-listed, entry-unread, slots-length, listed-most}
+use Rattle.memory.proofs.Laws.{entry-held, entry-of-held, entry-of-free, entry-listed, entry-unread, slots-length, listed-most}
 
 -- t′ is the table t with r at slot i
 pub record Placed (t : List ℕ) (k i : ℕ) (r : Row) (t′ : List ℕ) : Type 0 where

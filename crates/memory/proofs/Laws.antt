@@ -26,7 +26,7 @@ use Rattle.table.specs.Table as table
 use Rattle.table.specs.declared.row.Row.{Row}
 use Rattle.rules.specs.declared.Which.{Which}
 use Rattle.table.proofs.Laws.{length-view, nth-view}
-use Rattle.rules.proofs.Lists.{both, Says, first-says, first-same, sum-same}
+use Rattle.rules.proofs.Lists.{never, both, Says, first-says, first-same, sum-same}
 use Rattle.table.proofs.Searches.{found, lowest}
 use Rattle.memory.specs.Counts.{tableFits, linksFit, fits}
 use Rattle.memory.specs.Moves.{held}
@@ -41,9 +41,6 @@ free-entry r b e = rw e
 
 held-entry : (r : Row) (b : List ℕ) → r .held ≡ true → entryOf r b ≡ held (r .stream) (r .listed) b
 held-entry r b e = rw e
-
-pub never : {A : Type 0} → true ≡ false → A
-never e = absurd (let z : _≡_ {A = ℕ} 0 1 = cc in omega arith)
 
 pub held-same : (r : Row) (b : List ℕ) → entryOf r b .held ≡ r .held
 held-same r b = go (r .held) refl

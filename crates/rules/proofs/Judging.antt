@@ -15,10 +15,7 @@ use Rattle.rules.specs.declared.Setting.{Setting}
 use Rattle.rules.specs.declared.Setting.the-variants as setting
 use Rattle.rules.specs.declared.Checked.{Checked}
 use Rattle.rules.specs.declared.Checked.the-variants.{Fine, Wrong}
-use Rattle.rules.proofs.Lists.{both, split}
-
-clash : {A : Type 0} → true ≡ false → A
-clash e = absurd (let z : _≡_ {A = ℕ} 0 1 = cc in omega arith)
+use Rattle.rules.proofs.Lists.{never, both, split}
 
 -- ---- the numbers
 
@@ -89,7 +86,7 @@ module _ (ok : Setting → Bool) where
   lowest n w e h before = record { fails = h; least = λ v f. go v f (ltb (settingNumber v) n) refl }
     where
       go : (v : Setting) → ok v ≡ false → (b : Bool) → ltb (settingNumber v) n ≡ b → settingNumber w ≤ settingNumber v
-      go v f true q = clash (sym (before v (ltb-true (settingNumber v) n q)) ∙ f)
+      go v f true q = never (sym (before v (ltb-true (settingNumber v) n q)) ∙ f)
       go v f false q = omega (arith, e, ltb-false (settingNumber v) n q)
 
   -- what an answer says of the tests
@@ -119,7 +116,7 @@ module _ (m : Most) (s : Settings) where
   wrong-named w f = go (checkedWithin m s) refl
     where
       go : (c : Checked) → checkedWithin m s ≡ c → checkedWithin m s ≡ Wrong w
-      go (Fine k) e = clash (sym (all-hold k e .0 w) ∙ f .fails)
+      go (Fine k) e = never (sym (all-hold k e .0 w) ∙ f .fails)
       go (Wrong x) e =
           let g = first-wrong x e in
           let same : settingNumber x ≡ settingNumber w = omega (arith, g .least w (f .fails), f .least x (g .fails)) in

@@ -10,13 +10,12 @@ use lib.Dec.{eqb}
 use lib.ListN.{length, length-append}
 use borrow.Author.Tests.{eqb-true}
 use lib.Seq.{sets}
-use Rattle.rules.proofs.Lists.{both}
+use Rattle.rules.proofs.Lists.{never, both}
 use Rattle.connection.specs.Abstract.{absOf, Valid}
 use Rattle.connection.specs.Promises as connection
 use Rattle.connection.specs.declared.Connection.{Connection}
 use Rattle.trace_lines.proofs.Stored.{sets-then}
 use Rattle.memory.specs.Counts.{fits}
-use Rattle.memory.proofs.Laws.{never}
 use Rattle.trace.specs.Applies.{sized}
 use Rattle.trace.specs.Runs.{Traced, stopped, wrote, runs, resumed}
 use Rattle.trace.specs.Turns.{Lacks, Halts, Continues, Goes, RanAs, runsFrom, Bounds, Runs, Reached}

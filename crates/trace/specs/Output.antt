@@ -54,10 +54,9 @@ begunAs preamble.Bad = begun.Stop stop.Bad
 -- ---- the last line
 
 -- "Last line `end`, events applied, growth figure; for an unreadable trace `bad` and events applied", and then, by M-100, "the byte .. at
--- which the failing event starts"; for a wrong setting only `config` and its number, and for something lent
--- of a wrong size 14, which no input leads to. "An event cut short .. is unreadable": a run that is
--- short of input where bytes are left has one, and stopped where it starts. "Used up, it prints the last line." A run that stopped for room
--- is not over, and has no last line.
+-- which the failing event starts"; for a wrong setting only `config` and its number, and for something lent of a wrong size 14, which no
+-- input leads to. "An event cut short .. is unreadable": a run that is short of input where bytes are left has one, and stopped where it
+-- starts. "Used up, it prints the last line." A run that stopped for room is not over, and has no last line.
 abbrev pub lastLine : Stop → ℕ → ℕ → ℕ → ℕ → List ℕ
 lastLine stop.Short left byte applied growth = cond (ltb 0 left) (badLine applied byte) (endLine applied growth)
 lastLine stop.Bad left byte applied growth = badLine applied byte

@@ -10,7 +10,7 @@ use lib.ListN.{length, take, drop, length-append, take-append-drop}
 use lib.Seq.{sets-eq, length-sets, length-take-le, take-append-seam, take-take}
 use borrow.Author.Tests.{le-leb}
 use Rattle.chunks.proofs.Parts.{drop-take}
-use Rattle.memory.proofs.Laws.{never}
+use Rattle.rules.proofs.Lists.{never}
 use Rattle.rules.specs.State.{Conn}
 use Rattle.rules.specs.Settings.{checkedWithin}
 use Rattle.rules.specs.declared.Settings.{Settings}

@@ -7,7 +7,7 @@ use native.Mathlib.Omega.{arith}
 use lib.ListN.{length, take, drop, length-append, length-drop}
 use lib.Seq.{take-append-seam}
 use borrow.Author.Tests.{le-leb}
-use Rattle.memory.proofs.Laws.{never}
+use Rattle.rules.proofs.Lists.{never}
 use Rattle.trace_events.specs.Calls.{longest}
 use Rattle.trace_lines.specs.Writing.{Writes, lastRoom, longestLine}
 use Rattle.trace_lines.specs.declared.Put.{Put}

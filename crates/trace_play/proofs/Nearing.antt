@@ -15,7 +15,7 @@ use Rattle.trace.specs.Turns.{Lacks}
 use Rattle.trace.specs.declared.Report.{Report}
 use Rattle.trace.specs.declared.Stop.{Stop}
 use Rattle.trace_play.specs.Places.{afterRun, moved, fedOn, some, left, Nears}
-use Rattle.memory.proofs.Laws.{never}
+use Rattle.rules.proofs.Lists.{never}
 use Rattle.filter.specs.Account.{Account}
 use Rattle.filter.specs.Parts.{kept, Inside, afterRead, afterWrite, Fed}
 use Rattle.filter.specs.declared.Standing.{Standing}

@@ -3,7 +3,7 @@ use mathlib.Core.Path.{_≡_, refl, sym, ap, _∙_}
 use mathlib.Core.Bool.{Bool, true, false}
 use mathlib.Core.List.{List}
 use Prim.Native.Nat.{ℕ}
-use Rattle.memory.proofs.Laws.{never}
+use Rattle.rules.proofs.Lists.{never}
 use Rattle.trace.specs.declared.Stop.{Stop}
 use Rattle.filter.specs.Account.{Account}
 use Rattle.filter.specs.Parts.{afterRead, afterWrite}

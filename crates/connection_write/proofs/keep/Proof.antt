@@ -2,7 +2,7 @@
 use mathlib.Core.Path.{sym, _∙_}
 use borrow.Author.Needs.{needs}
 use Rattle.handlers.specs.Locals.{performStep}
-use Rattle.memory.proofs.Laws.{never}
+use Rattle.rules.proofs.Lists.{never}
 use Rattle.connection.proofs.Promises.{acted}
 use Rattle.connection_write.proofs.Handles.{step-follows}
 use Rattle.connection_write.proofs.keep.Statement.{statement}

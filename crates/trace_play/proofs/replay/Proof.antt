@@ -1,7 +1,7 @@
 -- `trace_play::replay` meets its contract: what is lent is judged first. Assumes nothing.
 use mathlib.Core.Path.{refl, sym, _∙_}
 use borrow.Author.Tests.{not-true, not-false}
-use Rattle.memory.proofs.Laws.{never}
+use Rattle.rules.proofs.Lists.{never}
 use Rattle.trace_play.proofs.Starting.{enough}
 use borrow.Author.Needs.{needs}
 use Rattle.trace_play.proofs.replay.Statement.{statement}
