@@ -10,7 +10,7 @@ use crate::{BLOCK, MOST, hold, least, link};
 const PIECE: usize = 65536;
 
 // Bytes that lie in one piece from the start of a block on: how many, and the last block that they are in.
-#[derive(Drop)]
+#[derive(Clone, Copy)]
 struct Piece {
     len: usize,
     last: u32,
@@ -23,8 +23,8 @@ fn copy(src: &[u8], dst: &mut [u8])
 {
     let n = src.len();
     let mut t = [0u8; PIECE];
-    bytes::copy(src, &mut t);
-    bytes::copy(&t[..n], dst);
+    t[..n].copy_from_slice(src);
+    dst[..n].copy_from_slice(&t[..n]);
 }
 
 // Copies part into the pool, from byte `used` of the block on.

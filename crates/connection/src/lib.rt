@@ -1,4 +1,6 @@
 // The connection: what it holds, and what its calls share. The calls themselves stand in the crates above.
+#![tactic(auto)]
+
 ghost use Rattle.std.specs.Prelude.{◌≡◌};
 ghost use Rattle.connection.specs.Parts.{pinged, gate_of, held_in, handle_of};
 ghost use Rattle.connection.specs.Promises.{sized, bare_answer, refused, sent_after, Over};
@@ -13,7 +15,7 @@ use stream::Sent;
 use table::row::Row;
 
 // The settings, but for K and P, which stand with the memory.
-#[derive(Drop)]
+#[derive(Clone, Copy)]
 pub struct Terms {
     pub mode: Mode,
     pub max_num_streams: u32,
@@ -26,7 +28,7 @@ pub struct Terms {
 }
 
 // The marks come last: a gap before a wide field would be copied by pieces at every call.
-#[derive(Drop)]
+#[derive(Clone, Copy)]
 pub struct Connection {
     pub config: Terms,
     pub rtt: Rtt,
@@ -38,21 +40,21 @@ pub struct Connection {
 }
 
 // The connection after a call, and what the call answers.
-#[derive(Drop)]
+#[derive(Clone, Copy)]
 pub struct Done {
     pub connection: Connection,
     pub answer: Answer,
 }
 
 // Whether a call goes on to its rule, or why not.
-#[derive(Drop)]
+#[derive(Clone, Copy)]
 pub enum Gate {
     Open,
     Shut(Reply),
 }
 
 // What a handle stands for: a held slot's row, or why there is none.
-#[derive(Drop)]
+#[derive(Clone, Copy)]
 pub enum Handle {
     Held(Row),
     Refused(Reply),

@@ -1,4 +1,6 @@
 // The drop of a handle: the rules' step of document 01.
+#![tactic(auto)]
+
 ghost use Rattle.std.specs.Prelude.{◌≡◌, List, ℕ, length};
 ghost use Rattle.rules.specs.Step.{drop};
 ghost use Rattle.connection.specs.Promises.{Promised, Gives};
@@ -13,7 +15,7 @@ use rules::{Reply, Slot, Which};
 use table::row::Row;
 
 // What is left once the stream with the handle's id is out of the table, and what the drop answers.
-#[derive(Drop)]
+#[derive(Clone, Copy)]
 pub struct Removed {
     pub memory: Memory,
     pub answer: Answer,

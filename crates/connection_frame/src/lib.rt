@@ -1,4 +1,6 @@
 // A frame from the peer: its header is read, a handler decides, and lent memory follows.
+#![tactic(auto)]
+
 mod shown;
 
 ghost use Rattle.std.specs.Prelude.{◌≡◌, length};
@@ -17,7 +19,7 @@ use rules::{Reply, Which};
 use table::row::Row;
 
 // The memory after an action, and what the frame is answered.
-#[derive(Drop)]
+#[derive(Clone, Copy)]
 pub struct Applied {
     pub memory: Memory,
     pub answer: Answer,

@@ -10,14 +10,14 @@ use rules::Which;
 use table::row::Row;
 
 // The frame's stream after its ACK step, and the row that holds it.
-#[derive(Drop)]
+#[derive(Clone, Copy)]
 pub struct Seen {
     pub known: Known,
     pub row: Row,
 }
 
 // What the frame does, and the row of its stream.
-#[derive(Drop)]
+#[derive(Clone, Copy)]
 pub struct Decided {
     pub row: Row,
     pub action: Action,

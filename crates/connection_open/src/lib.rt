@@ -1,4 +1,6 @@
 // The start of a connection, and the streams that it opens.
+#![tactic(auto)]
+
 mod acts;
 
 ghost use Rattle.std.specs.Prelude.{◌≡◌, length};
@@ -14,7 +16,7 @@ use rtt::Rtt;
 use rules::{Checked, Config, Mode, Setting, Settings};
 
 // A new connection, or why there is none: the first wrong setting, or lent memory of the wrong size.
-#[derive(Drop)]
+#[derive(Clone, Copy)]
 pub enum Created {
     Made(Connection),
     Wrong(Setting),

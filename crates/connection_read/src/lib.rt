@@ -1,4 +1,6 @@
 // Reading: the window step, the oldest unread bytes, and what the read answers.
+#![tactic(auto)]
+
 ghost use Rattle.std.specs.Prelude.{◌≡◌, ◌≤◌, length};
 ghost use Rattle.rules.specs.Replies.{count_of};
 ghost use Rattle.rules.specs.Step.{read};

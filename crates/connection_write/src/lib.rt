@@ -1,4 +1,6 @@
 // Write, close, tick and peer gone: each is the rules' step of document 01.
+#![tactic(auto)]
+
 ghost use Rattle.std.specs.Prelude.{◌≡◌, List, ℕ, length};
 ghost use Rattle.rules.specs.Step.{gone, tick, write, close};
 ghost use Rattle.memory.specs.Counts.{table_fits};

@@ -1,10 +1,12 @@
 // What programs share that read standard input in parts and write standard output: where such a program stands, a read and a write.
+#![tactic(auto)]
+
 ghost use Rattle.std.specs.Prelude.{◌≡◌, ◌++◌, min, ◌≤◌, length, take, drop};
 ghost use Rattle.filter.specs.Parts.{kept, Inside, answered, first, after_read, after_write, Flushes, Feeds, Fills};
 
 // Where a program stands: the input that was read and not yet taken lies from `at` to `have`, and what is not yet written lies below
 // `put`; whether the input has ended; whether all is done; and the work that reads and writes did.
-#[derive(Drop)]
+#[derive(Clone, Copy)]
 pub struct Standing {
     pub at: usize,
     pub have: usize,
@@ -16,7 +18,7 @@ pub struct Standing {
 
 // Every read and write did its work, or one failed: a read, or a write; or there was none, for what was lent is of a wrong size. The program
 // whose work it is says so by its own name.
-#[derive(Drop)]
+#[derive(Clone, Copy)]
 pub enum Work {
     Whole,
     Unread,
@@ -25,7 +27,7 @@ pub enum Work {
 }
 
 // What a read brought: as many bytes are there now, or the input has ended, or it failed.
-#[derive(Drop)]
+#[derive(Clone, Copy)]
 pub enum Got {
     More(usize),
     End,

@@ -1,5 +1,2 @@
--- Laws of the windows, for the layers above; and the walks of the record that is lent.
+-- Laws of the windows, for the layers above.
 pub mod Laws
-pub mod Changes
-pub mod Method
-pub mod Lender

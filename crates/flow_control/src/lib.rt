@@ -1,4 +1,6 @@
 // The windows of one stream: what the remote may still send, what we may, and when the remote is granted more.
+#![tactic(auto)]
+
 pub mod lent;
 
 ghost use Rattle.std.specs.Prelude.{◌≡◌, ◌-◌, min};
@@ -8,7 +10,7 @@ ghost use Rattle.flow_control.specs.Windows.{growth_returned, consume_send, incr
 use frame::header::{Credit, DEFAULT_CREDIT};
 use rtt::RoundTrip;
 
-#[derive(Drop)]
+#[derive(Clone, Copy)]
 pub struct FlowController {
     pub last_window_update: u64,
     pub receive_window: u32,
@@ -17,7 +19,7 @@ pub struct FlowController {
 }
 
 // How soon after the last update this one comes, measured in round trips.
-#[derive(Drop)]
+#[derive(Clone, Copy)]
 pub enum Pace {
     Unmeasured,
     Late,
@@ -25,7 +27,7 @@ pub enum Pace {
 }
 
 // Why an update that is due leaves the maximum as it does.
-#[derive(Drop)]
+#[derive(Clone, Copy)]
 pub enum Reason {
     Unmeasured,
     Late,
@@ -34,14 +36,14 @@ pub enum Reason {
 }
 
 // What the window step did, and the credit that it grants.
-#[derive(Drop)]
+#[derive(Clone, Copy)]
 pub enum Update {
     NotDue,
     Due(Reason, Credit),
 }
 
 // What the window step depends on beside the flow state.
-#[derive(Drop)]
+#[derive(Clone, Copy)]
 pub struct Conditions {
     pub unread: u32,
     pub time: u64,
@@ -52,28 +54,28 @@ pub struct Conditions {
 }
 
 // What the window step grants, and the connection's growth figure after it.
-#[derive(Drop)]
+#[derive(Clone, Copy)]
 pub struct Granted {
     pub growth: u64,
     pub update: Update,
 }
 
 // The flow state after the window step, and what is told of it.
-#[derive(Drop)]
+#[derive(Clone, Copy)]
 pub struct Moved {
     pub flow: FlowController,
     pub granted: Granted,
 }
 
 // Whether a window took a change.
-#[derive(Drop)]
+#[derive(Clone, Copy)]
 pub enum Verdict {
     Done,
     InvalidWindowUpdate,
 }
 
 // The flow state after a change; as it was where a window cannot take it.
-#[derive(Drop)]
+#[derive(Clone, Copy)]
 pub struct Settled {
     pub flow: FlowController,
     pub verdict: Verdict,

@@ -5,23 +5,23 @@ ghost use Rattle.frame.specs.Wire.{tag_number, type_of, number16, number32, wire
 ghost use Rattle.frame.specs.Header.{data_header, window_update_header, ping_header, go_away_header, normal, protocol_error, internal_error};
 
 // The number of a stream; 0 is the session's own.
-#[derive(Drop)]
+#[derive(Clone, Copy)]
 pub struct StreamId(pub u32);
 
 // The flag word, all 16 bits of it.
-#[derive(Drop)]
+#[derive(Clone, Copy)]
 pub struct Flags(pub u16);
 
 // The length field as it stands in a header. What it means depends on the type.
-#[derive(Drop)]
+#[derive(Clone, Copy)]
 pub struct Len(pub u32);
 
 // The length field of a window update: the bytes more that the frame's receiver may send.
-#[derive(Drop)]
+#[derive(Clone, Copy)]
 pub struct Credit(pub u32);
 
 // The message type.
-#[derive(Drop)]
+#[derive(Clone, Copy)]
 pub enum Tag {
     Data,
     WindowUpdate,
@@ -30,7 +30,7 @@ pub enum Tag {
 }
 
 // A header of version 0, the only one.
-#[derive(Drop)]
+#[derive(Clone, Copy)]
 pub struct Header {
     pub tag: Tag,
     pub flags: Flags,
@@ -39,7 +39,7 @@ pub struct Header {
 }
 
 // What twelve bytes were found to be.
-#[derive(Drop)]
+#[derive(Clone, Copy)]
 pub enum Decoded {
     Header(Header),
     Version(u8),
@@ -48,14 +48,14 @@ pub enum Decoded {
 }
 
 // How a header was written.
-#[derive(Drop)]
+#[derive(Clone, Copy)]
 pub enum Encoded {
     Done,
     Size,
 }
 
 // The type that a number stands for.
-#[derive(Drop)]
+#[derive(Clone, Copy)]
 pub enum Typed {
     Tag(Tag),
     Unknown,
@@ -359,6 +359,6 @@ pub fn encode(h: Header, buf: &mut [u8]) -> Encoded
         return Encoded::Size;
     }
     let bytes = wire(h);
-    bytes::copy(&bytes, buf);
+    buf.copy_from_slice(&bytes);
     Encoded::Done
 }

@@ -1,4 +1,6 @@
 // Yamux frames: the header and its codec, and the frames that are more than one header's maker.
+#![tactic(auto)]
+
 mod c;
 pub mod header;
 

@@ -1,5 +1,7 @@
 // Headers as document 01 gives them, and the edges of their fields, read and written again. One line each:
 // the bytes, document 01's reply, then type, flags, stream id, length and the bytes written, or what was refused.
+#![tactic(auto)]
+
 use frame::header::{Credit, Decoded, Encoded, Header, Len, StreamId};
 
 fn wide(x: u8) -> u64 {

@@ -8,14 +8,14 @@ use rules::{Reply, Slot, Value, Which};
 use stream::{Sent, Stream, StreamWakes, Written};
 
 // What a call leaves of the handle's stream, which is in the table if it was, and what the call answers.
-#[derive(Drop)]
+#[derive(Clone, Copy)]
 pub struct StreamStep {
     pub stream: Stream,
     pub answer: Answer,
 }
 
 // What a write does.
-#[derive(Drop)]
+#[derive(Clone, Copy)]
 pub enum WriteStep {
     // Nothing: the stream, or the connection, is closed for writing.
     Closed,

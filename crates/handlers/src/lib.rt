@@ -1,4 +1,6 @@
 // The handlers on values: what a frame or a call does to its stream and to the connection, before any lent memory is touched.
+#![tactic(auto)]
+
 mod answers;
 pub mod calls;
 pub mod known_stream;
@@ -17,7 +19,7 @@ use rules::{Mode, Reply, Slot, Value, Which, Woke};
 use stream::{Received, Sent, Stream};
 
 // What a call answers, but for bytes: a body and bytes read stand in lent memory. The narrow parts come last, as in `Connection`.
-#[derive(Drop)]
+#[derive(Clone, Copy)]
 pub struct Answer {
     pub slot: Which,
     pub value: Value,
@@ -27,14 +29,14 @@ pub struct Answer {
 }
 
 // The frame's stream in the table, as the ACK step left it.
-#[derive(Drop)]
+#[derive(Clone, Copy)]
 pub enum Known {
     At(Slot, Stream),
     Nowhere,
 }
 
 // What a frame or a call on a handle does to the table and the pool.
-#[derive(Drop)]
+#[derive(Clone, Copy)]
 pub enum Action {
     // Nothing: all is as before.
     Refuse(Reply),
@@ -49,21 +51,21 @@ pub enum Action {
 }
 
 // The pings after a Ping frame or a tick, and what it answers.
-#[derive(Drop)]
+#[derive(Clone, Copy)]
 pub struct PingStep {
     pub rtt: Rtt,
     pub answer: Answer,
 }
 
 // The id of an own stream and the one after it.
-#[derive(Drop)]
+#[derive(Clone, Copy)]
 pub enum NextId {
     Id(StreamId, u32),
     NoMore,
 }
 
 // What an open does.
-#[derive(Drop)]
+#[derive(Clone, Copy)]
 pub enum Opening {
     // The connection ends.
     End(Reply),
@@ -74,7 +76,7 @@ pub enum Opening {
 }
 
 // What a read leaves and answers; as many bytes are read as the answer's value counts.
-#[derive(Drop)]
+#[derive(Clone, Copy)]
 pub struct ReadStep {
     pub stream: Stream,
     pub growth: u64,
@@ -82,7 +84,7 @@ pub struct ReadStep {
 }
 
 // The connection's part in the SYN rules.
-#[derive(Drop)]
+#[derive(Clone, Copy)]
 pub struct Limits {
     pub mode: Mode,
     pub max_num_streams: u32,

@@ -1,4 +1,6 @@
 // The lent memory as one: the stream table, the links and the pool, with what is counted beside them.
+#![tactic(auto)]
+
 ghost use Rattle.std.specs.Prelude.{◌≡◌, ◌+◌, ◌-◌, ◌%◌, ◌^◌};
 ghost use Rattle.table.specs.Table.{stored};
 ghost use Rattle.memory.specs.Counts.{left, table_fits, links_fit, fits, next, counted};
@@ -10,7 +12,7 @@ use stream::Stream;
 use table::row::Row;
 
 // The sizes, the free blocks, how many streams are in the table, and how many bytes are unread.
-#[derive(Drop)]
+#[derive(Clone, Copy)]
 pub struct Memory {
     pub slots: u32,
     pub pool: u32,

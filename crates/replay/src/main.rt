@@ -1,4 +1,6 @@
 // Replays a trace: standard input in parts, and to standard output a line for each event and the last line.
+#![tactic(auto)]
+
 mod room;
 
 ghost use Rattle.trace_play.specs.Plays.{Lent, Performs};

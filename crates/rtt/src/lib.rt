@@ -1,24 +1,26 @@
 // Round trips: when a ping is due, and what a pong says.
+#![tactic(auto)]
+
 ghost use Rattle.std.specs.Prelude.{◌≡◌};
 ghost use Rattle.rtt.specs.Pings.{start, next_ping, handle_pong, elapsed, later};
 
 use frame::header::Header;
 
 // Whether a pong is awaited, and since when; or when the next ping is due.
-#[derive(Drop)]
+#[derive(Clone, Copy)]
 pub enum RttState {
     Waiting { next: u64 },
     AwaitingPong { sent_at: u64, id: u32 },
 }
 
 // The last measured round trip, which may be 0.
-#[derive(Drop)]
+#[derive(Clone, Copy)]
 pub enum RoundTrip {
     Unknown,
     Known(u64),
 }
 
-#[derive(Drop)]
+#[derive(Clone, Copy)]
 pub struct Rtt {
     pub state: RttState,
     pub next_id: u32,
@@ -26,20 +28,20 @@ pub struct Rtt {
 }
 
 // The ping to send now.
-#[derive(Drop)]
+#[derive(Clone, Copy)]
 pub enum NextPing {
     Ping(Header),
     None,
 }
 
-#[derive(Drop)]
+#[derive(Clone, Copy)]
 pub struct Pinged {
     pub rtt: Rtt,
     pub ping: NextPing,
 }
 
 // A pong ends the wait, or is an error of the remote's.
-#[derive(Drop)]
+#[derive(Clone, Copy)]
 pub enum Pong {
     Accepted(Rtt),
     Unexpected,

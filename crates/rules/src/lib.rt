@@ -1,4 +1,6 @@
 // The connection's settings, calls and replies: what the rules of document 01 speak of.
+#![tactic(auto)]
+
 ghost use Rattle.std.specs.Prelude.{◌≡◌, ◌≤◌};
 ghost use Rattle.rules.specs.Settings.{checked, checked_within, config_of, holds, judged, last_four, mode_of, setting_number};
 ghost use Rattle.rules.specs.declared.Checked.TheVariants.{Fine};
@@ -7,7 +9,7 @@ ghost use Rattle.rules.specs.Replies.{number, count_of};
 use frame::header::DEFAULT_CREDIT;
 
 // The ten numbers of a connection as they are typed.
-#[derive(Drop)]
+#[derive(Clone, Copy)]
 pub struct Settings {
     pub mode: u64,
     pub max_num_streams: u64,
@@ -21,14 +23,14 @@ pub struct Settings {
     pub pool: u64,
 }
 
-#[derive(Drop)]
+#[derive(Clone, Copy)]
 pub enum Mode {
     Client,
     Server,
 }
 
 // Settings that are in range.
-#[derive(Drop)]
+#[derive(Clone, Copy)]
 pub struct Config {
     pub mode: Mode,
     pub max_num_streams: u32,
@@ -43,14 +45,14 @@ pub struct Config {
 }
 
 // The most slots and bytes of pool that a program permits, beside the bounds of every connection.
-#[derive(Drop)]
+#[derive(Clone, Copy)]
 pub struct Most {
     pub slots: u64,
     pub pool: u64,
 }
 
 // The settings in the order in which they are read.
-#[derive(Drop)]
+#[derive(Clone, Copy)]
 pub enum Setting {
     Mode,
     Streams,
@@ -64,18 +66,18 @@ pub enum Setting {
     Pool,
 }
 
-#[derive(Drop)]
+#[derive(Clone, Copy)]
 pub enum Checked {
     Fine(Config),
     Wrong(Setting),
 }
 
 // The number of a slot, which is what a handle is.
-#[derive(Drop)]
+#[derive(Clone, Copy)]
 pub struct Slot(pub u32);
 
 // The numbered replies.
-#[derive(Drop)]
+#[derive(Clone, Copy)]
 pub enum Reply {
     Done,
     Wait,
@@ -95,21 +97,21 @@ pub enum Reply {
 }
 
 // The slot that an answer speaks of.
-#[derive(Drop)]
+#[derive(Clone, Copy)]
 pub enum Which {
     At(Slot),
     None,
 }
 
 // The number that an answer carries: a new id, a count of bytes, a ping's id or a GoAway code.
-#[derive(Drop)]
+#[derive(Clone, Copy)]
 pub enum Value {
     Of(u32),
     None,
 }
 
 // Who waited and waits no more; `all` where the connection ended.
-#[derive(Drop)]
+#[derive(Clone, Copy)]
 pub struct Woke {
     pub reader: bool,
     pub writer: bool,

@@ -1,4 +1,6 @@
 // One stream by value: its state, the flag that its next frame owes, who waits on it, and its windows.
+#![tactic(auto)]
+
 mod outgoing;
 mod states;
 
@@ -10,7 +12,7 @@ ghost use Rattle.stream.specs.Streams.{add_flag, update_frame, step_taken, send_
 use flow_control::{Conditions, FlowController, Moved, Update, Verdict, lent};
 use frame::header::{Credit, DEFAULT_CREDIT, Header, StreamId};
 
-#[derive(Drop)]
+#[derive(Clone, Copy)]
 pub enum State {
     // Open both ways. Of our own stream `acknowledged` says that the remote sent ACK, of an inbound one that we did.
     Open { acknowledged: bool },
@@ -22,14 +24,14 @@ pub enum State {
 }
 
 // The flag that the stream's next frame has to carry.
-#[derive(Drop)]
+#[derive(Clone, Copy)]
 pub enum Flag {
     None,
     Syn,
     Ack,
 }
 
-#[derive(Drop)]
+#[derive(Clone, Copy)]
 pub struct Stream {
     pub id: StreamId,
     pub flag: Flag,
@@ -40,40 +42,40 @@ pub struct Stream {
 }
 
 // Who waited, and waits no more.
-#[derive(Drop)]
+#[derive(Clone, Copy)]
 pub struct StreamWakes {
     pub reader: bool,
     pub writer: bool,
 }
 
 // The frame to send.
-#[derive(Drop)]
+#[derive(Clone, Copy)]
 pub enum Sent {
     Frame(Header),
     Nothing,
 }
 
 // A frame was taken, or breaks the protocol.
-#[derive(Drop)]
+#[derive(Clone, Copy)]
 pub enum Received {
     Taken(Stream, StreamWakes),
     ProtocolError,
 }
 
-#[derive(Drop)]
+#[derive(Clone, Copy)]
 pub struct Woken {
     pub stream: Stream,
     pub wakes: StreamWakes,
 }
 
 // Whether a read took the window step, and what that did.
-#[derive(Drop)]
+#[derive(Clone, Copy)]
 pub enum Step {
     Took(Update),
     Skipped,
 }
 
-#[derive(Drop)]
+#[derive(Clone, Copy)]
 pub struct Updated {
     pub stream: Stream,
     pub growth: u64,
@@ -82,26 +84,26 @@ pub struct Updated {
 }
 
 // How a read ends.
-#[derive(Drop)]
+#[derive(Clone, Copy)]
 pub enum ReadEnd {
     Done(Stream),
     Wait(Stream),
 }
 
-#[derive(Drop)]
+#[derive(Clone, Copy)]
 pub enum Written {
     Frame(Stream, Header),
     Wait(Stream),
     Closed,
 }
 
-#[derive(Drop)]
+#[derive(Clone, Copy)]
 pub struct Closing {
     pub stream: Stream,
     pub sent: Sent,
 }
 
-#[derive(Drop)]
+#[derive(Clone, Copy)]
 pub struct Dropped {
     pub stream: Stream,
     pub sent: Sent,

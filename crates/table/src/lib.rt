@@ -1,4 +1,6 @@
 // The stream table in lent cells: K keys, 2 × K hints, then K rows of six cells. A hint is never trusted.
+#![tactic(auto)]
+
 pub mod row;
 
 ghost use Rattle.std.specs.Prelude.{◌≡◌, ◌≤◌, ◌<◌, length};

@@ -8,7 +8,7 @@ use frame::header::StreamId;
 use stream::{Flag, State, Stream};
 
 // Whether the slot's handle is held, whether its stream is in the table, the stream, and its queue's numbers.
-#[derive(Drop)]
+#[derive(Clone, Copy)]
 pub struct Row {
     pub held: bool,
     pub listed: bool,

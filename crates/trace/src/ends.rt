@@ -10,7 +10,7 @@ use trace_events::Preamble;
 use trace_lines::Put;
 
 // The cells and bytes that settings ask for.
-#[derive(Drop)]
+#[derive(Clone, Copy)]
 pub struct Sizes {
     pub table: usize,
     pub links: usize,
@@ -18,7 +18,7 @@ pub struct Sizes {
 }
 
 // Settings that a trace may have, what they ask for and the place after them; or why no event is reached.
-#[derive(Drop)]
+#[derive(Clone, Copy)]
 pub enum Begun {
     Fine(Settings, Sizes, usize),
     Stop(Stop),

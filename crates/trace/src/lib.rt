@@ -1,4 +1,6 @@
 // A run over a trace: whole events are read, applied and written as lines, as far as the input, the allowance and the room go.
+#![tactic(auto)]
+
 mod apply;
 mod ends;
 
@@ -18,7 +20,7 @@ use trace_lines::{LONGEST_LINE, Put, Shown};
 
 // Why a trace stopped: the input ends before or within an event; the next event is unreadable; the allowance is used up; there
 // is less room than the longest line takes; a setting is wrong; or something lent is of the wrong size, and nothing was applied.
-#[derive(Drop)]
+#[derive(Clone, Copy)]
 pub enum Stop {
     Short,
     Bad,
@@ -29,7 +31,7 @@ pub enum Stop {
 }
 
 // Where a run stands: the place in the input, the events applied so far, and the place in the room for lines.
-#[derive(Drop)]
+#[derive(Clone, Copy)]
 pub struct Place {
     pub at: usize,
     pub applied: u64,
@@ -37,7 +39,7 @@ pub struct Place {
 }
 
 // The connection after a run, where the run stands, and why it stopped there.
-#[derive(Drop)]
+#[derive(Clone, Copy)]
 pub struct Report {
     pub connection: Connection,
     pub place: Place,
@@ -45,7 +47,7 @@ pub struct Report {
 }
 
 // The connection after an event, and where the run stands then; or why the event was not applied.
-#[derive(Drop)]
+#[derive(Clone, Copy)]
 enum Turned {
     On(Connection, Place),
     Stop(Stop),

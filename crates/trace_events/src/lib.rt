@@ -1,4 +1,6 @@
 // The reader of traces: numbers, settings and events, from a part of a trace that need not be whole.
+#![tactic(auto)]
+
 ghost use Rattle.std.specs.Prelude.{◌≡◌, ◌≤◌, ◌<◌, ◌+◌, length};
 ghost use Rattle.trace_events.specs.Numbers.{number_at};
 ghost use Rattle.trace_events.specs.Format.{settings_at, following, value_of, settings_with, length_at, event_of, frame_at, bytes_at, count_at, slot_at, rest_at, time_at, event_at};
@@ -7,7 +9,7 @@ use frame::header::HEADER_SIZE;
 use rules::Settings;
 
 // A number and the place after it; or the input ends before it does; or no input makes it a number.
-#[derive(Drop)]
+#[derive(Clone, Copy)]
 pub enum Number {
     Value(u64, usize),
     Short,
@@ -15,7 +17,7 @@ pub enum Number {
 }
 
 // All ten settings as they are typed, and the place after them.
-#[derive(Drop)]
+#[derive(Clone, Copy)]
 pub enum Preamble {
     Settings(Settings, usize),
     Short,
@@ -24,7 +26,7 @@ pub enum Preamble {
 
 // What an event asks for, by its numbers and by places of the input. A frame's header stands from `head` to `body`, its body from
 // there to the event's end; the bytes to write stand from `start` to the event's end.
-#[derive(Drop)]
+#[derive(Clone, Copy)]
 pub enum Kind {
     Tick,
     Frame { head: usize, body: usize },
@@ -37,7 +39,7 @@ pub enum Kind {
 }
 
 // An event: its time, the place after it, and what it asks for.
-#[derive(Drop)]
+#[derive(Clone, Copy)]
 pub struct Event {
     pub now: u64,
     pub next: usize,
@@ -45,7 +47,7 @@ pub struct Event {
 }
 
 // An event; or the input ends before it does; or no input makes it an event.
-#[derive(Drop)]
+#[derive(Clone, Copy)]
 pub enum Parsed {
     Event(Event),
     Short,

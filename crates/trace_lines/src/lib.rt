@@ -1,4 +1,6 @@
 // The line writer: an outcome's line, and the last lines, into lent room.
+#![tactic(auto)]
+
 ghost use Rattle.std.specs.Prelude.{◌≡◌, [], ◌∷◌, ◌+◌, ◌-◌, ◌*◌, ◌≤◌, ◌<◌, length};
 ghost use Rattle.rules.specs.Replies.{number};
 ghost use Rattle.trace_lines.specs.Line.{decimal, hex_digit, hex, or_dash, slot_value, value_text, mark, marks, wakes_text, field, line_of, last_of, end_line, bad_line, config_line};
@@ -7,7 +9,7 @@ ghost use Rattle.trace_lines.specs.Writing.{Stores, Room, Writes, line_room, las
 use rules::{Reply, Value, Which, Woke};
 
 // What a line shows beside the header and the bytes read.
-#[derive(Drop)]
+#[derive(Clone, Copy)]
 pub struct Shown {
     pub number: u64,
     pub reply: Reply,
@@ -17,7 +19,7 @@ pub struct Shown {
 }
 
 // The place after what was written; or there was too little room, and nothing changed.
-#[derive(Drop)]
+#[derive(Clone, Copy)]
 pub enum Put {
     At(usize),
     Full,

@@ -1,4 +1,6 @@
 // The loop of programs that play a trace: standard input in parts, and to standard output a line for each event and the last line.
+#![tactic(auto)]
+
 mod sizes;
 
 ghost use Rattle.std.specs.Prelude.{◌≡◌, false, ◌≤◌, length, take};
@@ -17,7 +19,7 @@ use trace_lines::Put;
 
 // The connection, the events applied, the bytes of the input that lie before those in the buffer, and where the program stands in its input
 // and its output.
-#[derive(Drop)]
+#[derive(Clone, Copy)]
 struct State {
     connection: Connection,
     applied: u64,
@@ -26,7 +28,7 @@ struct State {
 }
 
 // What follows a run.
-#[derive(Drop)]
+#[derive(Clone, Copy)]
 enum Task {
     Write,
     Read,

@@ -1,0 +1,17 @@
+use borrow.Author.Rules.{rules}
+use Prim.Native.Nat.{ℕ, ◌+◌, ◌-◌, min, ◌≤◌, ◌<◌, ◌^◌}
+use mathlib.Core.Path.{◌≡◌, refl, sym, ap, subst, ◌∙◌}
+use native.Mathlib.Omega.{arith}
+use lib.ListN.{length, get_or, set, length-set}
+use lib.Seq.{get_or-set_same, get_or-set_other}
+use borrow.Author.Count.{below_more}
+use native.Mathlib.Nat.{le_antisymm}
+use Rattle.chunks.proofs.Turns.{started}
+use Rattle.chunks.proofs.init.Given as goal
+
+abbrev pub invariant-loop-i : goal.invariant-loop-i
+invariant-loop-i l =
+    (l.i ≤ l.n) × (l.n ≡ min (length l.initial.links) (2 ^ 32 - 1)) × (length l.links ≡ length l.initial.links) × ((k : ℕ) → k < l.i → get_or l.links k 0 ≡ k + 1)
+
+abbrev pub decreases-loop-i : goal.decreases-loop-i
+decreases-loop-i l = l.n - l.i

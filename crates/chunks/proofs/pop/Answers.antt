@@ -1,0 +1,19 @@
+use borrow.Author.Rules.{rules}
+use Prim.Native.Nat.{◌%◌, ◌≤◌}
+use mathlib.Core.Path.{refl, sym}
+use native.Mathlib.Omega.{arith}
+use lib.ListN.{length}
+use lib.Seq.{length-take-le}
+use Rattle.chunks.specs.Blocks.{BLOCK}
+use Rattle.chunks.proofs.Turns.{drawn}
+use Rattle.chunks.proofs.pop.Goals as goal
+
+pub returns : goal.returns
+returns c =
+    let x = c in
+    let g = x.gather in
+    let n = x.least-n in
+    let a = x.args in (
+      x.pass-r.ensures.queue_value.0,
+      λ good. (n.ensures, drawn a.links.now a.pool.now x.pass-r.new.links a.f a.q x.pass-r.result a.out.now g.new.1.1.1.1.0 n.result (a.q.from % BLOCK) n.ensures refl g.auto.1.1.1.1.0 g.ensures x.pass-r.ensures.queue_value.1 x.pass-r.ensures.passes good),
+    )
