@@ -104,11 +104,11 @@ module _ (c : Conn) (woke : Bool) (h : Header) (body : List ℕ) where
     room-kept : room (stepped c woke (known.At i s)).conn ≡ room c
     room-kept = rw (sum_kept (λ e. length e.bytes) c.slots i.0 (with_stream (entry c.slots i.0) s) vacant refl)
 
-    take_at : (n : ℕ) (r : Received) → length body ≡ n →
+    take_at_lem : (n : ℕ) (r : Received) → length body ≡ n →
         take_at i.0 (stepped c woke (known.At i s)) h body r ≡ does (take i s (room c) woke (contains h.flags fin) n r)
     unfolding perform take_at
-    take_at n ProtocolError e = violates (known.At i s) lives
-    take_at n (Taken t w) e =
+    take_at_lem n ProtocolError e = violates (known.At i s) lives
+    take_at_lem n (Taken t w) e =
         rw (room-kept, e) (both does (ltb (room c) n) refl (keeps i t _ n _ e _ (rw (same, set-set, lives.1, lives.2))))
 
   resets : (k : Known) → LivesAt c k → rules.on_reset (stepped c woke k) (place_of k) ≡ does (actions.on_reset woke k)
@@ -156,7 +156,7 @@ module _ (c : Conn) (woke : Bool) (header : Header) (now : ℕ) where
 
     known-data : (k : Known) → LivesAt c k → known_data (stepped c woke k) d body (place_of k) ≡ perform c body (on_known (room c) woke k d)
     unfolding perform known_data on_known receive
-    known-data (known.At i s) l = rw (same c woke d body i s l, e) (take_at c woke d body i s l d.length.0 (on_data s d.length.0 (contains d.flags fin)) e)
+    known-data (known.At i s) l = rw (same c woke d body i s l, e) (take_at_lem c woke d body i s l d.length.0 (on_data s d.length.0 (contains d.flags fin)) e)
     known-data known.Nowhere l = refl
 
     data-stepped : (k : Known) → LivesAt c k → data_rules (stepped c woke k) d body (place_of k) now ≡ perform c body (stream_action (limits_of c) woke k (free c) d now)
@@ -179,7 +179,7 @@ module _ (c : Conn) (woke : Bool) (header : Header) (now : ℕ) where
   known-update : (k : Known) → LivesAt c k → known_update (stepped c woke k) u (place_of k) ≡ perform c [] (on_known (room c) woke k u)
   unfolding perform known_update on_known receive
   known-update (known.At i s) l =
-      rw (same c woke u [] i s l) (take_at c woke u [] i s l 0 (on_window_update s (record { 0 = u.length.0 }) (contains u.flags fin)) refl)
+      rw (same c woke u [] i s l) (take_at_lem c woke u [] i s l 0 (on_window_update s (record { 0 = u.length.0 }) (contains u.flags fin)) refl)
   known-update known.Nowhere l = refl
 
   update-stepped : (k : Known) → LivesAt c k → update_rules (stepped c woke k) u (place_of k) now ≡ perform c [] (stream_action (limits_of c) woke k (free c) u now)

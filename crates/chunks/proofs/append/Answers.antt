@@ -20,5 +20,5 @@ returns c good room =
     let n = length a.body.now in
     let count : w.low32-count.result ≡ (a.f.count + size a.q - hold (a.q.from + a.q.unread + n)) % (2 ^ 32) = omega (arith, w.low32-count.ensures, w.hold-2.ensures, w.hold.ensures) in
     let k = d.ensures a.pool.now good in
-    fed a.links.now a.pool.now d.new.0 z.new.1.0 a.f d.result a.q a.body.now (y.end-e.result % BLOCK) w.next_block-at.result z.result c.link-next.result w.low32-count.result c.low32-unread.result
-    (ap (λ (i : ℕ). i % BLOCK) e) w.next_block-at.ensures z.ensures.0 c.link-next.ensures count c.low32-unread.ensures y.requires.body_nonzero z.auto.1.0 z.ensures.1 good room k.0 k.1
+    fed a.links.now a.pool.now d.new.links z.new.pool a.f d.result a.q a.body.now (y.end-e.result % BLOCK) w.next_block-at.result z.result c.link-next.result w.low32-count.result c.low32-unread.result
+    (ap (λ (i : ℕ). i % BLOCK) e) w.next_block-at.ensures z.ensures.value c.link-next.ensures count c.low32-unread.ensures y.requires.body_nonzero z.auto.pool z.ensures.scatters good room k.0 k.1

@@ -15,5 +15,5 @@ returns c =
     let n = x.least-n in
     let a = x.args in (
       x.pass-r.ensures.queue_value.0,
-      λ good. (n.ensures, drawn a.links.now a.pool.now x.pass-r.new.links a.f a.q x.pass-r.result a.out.now g.new.1.1.1.1.0 n.result (a.q.from % BLOCK) n.ensures refl g.auto.1.1.1.1.0 g.ensures x.pass-r.ensures.queue_value.1 x.pass-r.ensures.passes good),
+      λ good. (n.ensures, drawn a.links.now a.pool.now x.pass-r.new.links a.f a.q x.pass-r.result a.out.now g.new.out n.result (a.q.from % BLOCK) n.ensures refl g.auto.out g.ensures x.pass-r.ensures.queue_value.1 x.pass-r.ensures.passes good),
     )

@@ -19,9 +19,9 @@ loop-got-init c =
     let d = c.drain in
     let starts : a.from < BLOCK = c.requires in (
       omega arith,
-      length_front a.out.now d.new.1.1.1.0 m d.auto.1.1.1.0,
+      length_front a.out.now d.new.out m d.auto.out,
       stands_first a.links.now a.at a.from (length a.out.now) m starts (omega arith) (λ h. omega arith),
-      gather_first a.links.now a.pool.now a.at a.from (a.from + length a.out.now) m a.out.now d.new.1.1.1.0 (omega arith) starts (omega arith) d.auto.1.1.1.0 d.ensures,
+      gather_first a.links.now a.pool.now a.at a.from (a.from + length a.out.now) m a.out.now d.new.out (omega arith) starts (omega arith) d.auto.out d.ensures,
     )
 
 pub loop-got-preserved : goal.loop-got-preserved
@@ -35,9 +35,9 @@ loop-got-preserved c =
     let m = p.result.len in
     let l₁ : v.got + m ≤ n = omega (arith, p.ensures.most, v.invariant.0) in
     let l₂ : v.got + m ≤ length v.out = omega (arith, v.invariant.1) in
-    let l₃ : length d.new.1.1.1.0 ≡ v.got + m - v.got = d.auto.1.1.1.0 ∙ length_mid v.out v.got (v.got + m) l₂ in (
+    let l₃ : length d.new.out ≡ v.got + m - v.got = d.auto.out ∙ length_mid v.out v.got (v.got + m) l₂ in (
       l₁,
-      part_length v.out d.new.1.1.1.0 v.got (v.got + m) (le-add_right v.got m) l₂ l₃ ∙ v.invariant.1,
+      part_length v.out d.new.out v.got (v.got + m) (le-add_right v.got m) l₂ l₃ ∙ v.invariant.1,
       stands_on a.links.now a.at a.from v.got n v.last k.result p.result v.invariant.2 k.ensures p.ensures,
-      gather_next a.links.now a.pool.now a.at a.from (a.from + n) v.got (n - v.got) v.last k.result p.result v.out d.new.1.1.1.0 v.invariant.2 k.ensures p.ensures (omega arith) l₂ l₃ v.invariant.3 d.ensures,
+      gather_next a.links.now a.pool.now a.at a.from (a.from + n) v.got (n - v.got) v.last k.result p.result v.out d.new.out v.invariant.2 k.ensures p.ensures (omega arith) l₂ l₃ v.invariant.3 d.ensures,
     )

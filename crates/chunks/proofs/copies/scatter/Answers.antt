@@ -25,14 +25,13 @@ loop-done-preserved c =
     let n = length a.body.now in
     let l : v.done + p.result.len ≤ n = omega (arith, p.ensures.most, v.invariant.0) in (
       l,
-      f.auto.0 ∙ v.invariant.1,
+      f.auto.pool ∙ v.invariant.1,
       stands_on a.links.now a.at a.used v.done n v.last k.result p.result v.invariant.2 k.ensures p.ensures,
-      λ x h w. scatter_next a.links.now x v.pool f.new.0 a.at a.used v.done (n - v.done) v.last k.result p.result a.body.now v.invariant.2 k.ensures p.ensures l (v.invariant.1 ∙ h) (v.invariant.3 x h w) f.ensures,
+      λ x h w. scatter_next a.links.now x v.pool f.new.pool a.at a.used v.done (n - v.done) v.last k.result p.result a.body.now v.invariant.2 k.ensures p.ensures l (v.invariant.1 ∙ h) (v.invariant.3 x h w) f.ensures,
     )
 
--- for the clause returns-clause-scatters
-pub returns : goal.returns
-returns c =
+pub returns-clause-scatters : goal.returns-clause-scatters
+returns-clause-scatters c =
     let a = c.args in
     let v = c.loop-done in
     let m = c.least-done.result in
@@ -41,8 +40,6 @@ returns c =
     let e : v.done ≡ length a.body.now = le_antisymm v.invariant.0 c.loop-done-test.false in
     let b : take v.done a.body.now ≡ a.body.now = ap (λ (k : ℕ). take k a.body.now) e ∙ take-length a.body.now in
     let starts : a.used < BLOCK = c.requires in
-    let s : length (take m a.body.now) ≡ m = length-take-le m a.body.now (omega arith) in (
-      v.invariant.2.here ∙ ap (λ (k : ℕ). hop a.links.now a.at (hold (a.used + k) - 1)) e,
-      subst (λ (x : List ℕ). Scatters a.links.now a.pool.now a.at a.used (a.used + length a.body.now) x v.pool) b
-          (v.invariant.3 a.pool.now f.auto.0 (scatter_first a.links.now a.pool.now f.new.0 a.at a.used (a.used + length a.body.now) (take m a.body.now) starts (omega arith) (omega arith) f.ensures)),
-    )
+    let s : length (take m a.body.now) ≡ m = length-take-le m a.body.now (omega arith) in
+    subst (λ (x : List ℕ). Scatters a.links.now a.pool.now a.at a.used (a.used + length a.body.now) x v.pool) b
+        (v.invariant.3 a.pool.now f.auto.pool (scatter_first a.links.now a.pool.now f.new.pool a.at a.used (a.used + length a.body.now) (take m a.body.now) starts (omega arith) (omega arith) f.ensures))
