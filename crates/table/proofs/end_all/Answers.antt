@@ -1,0 +1,27 @@
+use mathlib.Core.Path.{◌≡◌, refl, sym, ap, ◌∙◌}
+use Prim.Native.Nat.{◌-◌, ◌≤◌}
+use native.Mathlib.Nat.{le_antisymm}
+use native.Mathlib.Omega.{arith}
+use borrow.Author.Rules.{rules}
+use lib.ListN.{length}
+use Rattle.table.specs.Table.{ended}
+use Rattle.table.proofs.Laws.{length-ended, ended_more}
+use Rattle.table.proofs.end_all.Goals as goal
+
+-- ?? goal Need-overflow-add-i
+-- add-i c = omega arith
+
+-- ?? goal Need-same-length
+-- same_length c =
+--     let a = c.before.before.before.args in
+--     omega (arith, ap length c.before.loop.invariant.1, length-ended a.table.now a.k c.before.loop.i)
+
+pub loop-i-init : goal.loop-i-init
+unfolding ended
+loop-i-init c = (omega arith, refl)
+
+pub loop-i-preserved : goal.loop-i-preserved
+loop-i-preserved c =
+    let a = c.args in
+    let v = c.loop-i in
+    (omega arith, c.store.ensures ∙ rw (c.end-row.ensures, c.load.ensures, v.invariant.1) (sym (ended_more a.table.now a.k v.i)))

@@ -1,0 +1,6 @@
+use borrow.Author.Rules.{rules}
+use Rattle.table.proofs.Scans.{scan-finds}
+use Rattle.table.proofs.find.Goals as goal
+
+pub returns : goal.returns
+returns c = let a = c.args in rw c.scan.ensures (scan-finds a.table.now a.k a.id)

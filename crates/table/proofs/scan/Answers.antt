@@ -1,0 +1,29 @@
+use mathlib.Core.Path.{◌≡◌}
+use Prim.Native.Nat.{ℕ, ◌-◌, min, ◌≤◌, ◌<◌}
+use native.Mathlib.Omega.{arith}
+use borrow.Author.Count.{below_more}
+use borrow.Author.Rules.{rules}
+use lib.ListN.{get_or, length}
+use Rattle.table.proofs.Scans.{scan-at, scan-nowhere}
+use Rattle.table.proofs.scan.Goals as goal
+
+-- ?? goal Need-overflow-mul-if1
+-- mul-if1 c = omega arith
+
+-- ?? goal Need-overflow-cast-t12
+-- cast-t12 c = omega arith
+
+-- ?? goal Need-overflow-add-i
+-- add-i c = omega arith
+
+pub returns-then-table-i : goal.returns-then-table-i
+returns-then-table-i c =
+    let a = c.args in
+    let v = c.loop-i in
+    scan-at a.table.now a.k a.key v.i (omega arith) v.invariant.2 c.if-table-i.true
+
+pub returns : goal.returns
+returns c =
+    let a = c.args in
+    let v = c.loop-i in
+    scan-nowhere a.table.now a.k a.key (λ j h. v.invariant.2 j (omega arith))

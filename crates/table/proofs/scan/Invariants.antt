@@ -1,0 +1,14 @@
+use mathlib.Core.Path.{◌≡◌}
+use Prim.Native.Nat.{ℕ, ◌-◌, min, ◌≤◌, ◌<◌}
+use native.Mathlib.Omega.{arith}
+use borrow.Author.Count.{below_more}
+use borrow.Author.Rules.{rules}
+use lib.ListN.{get_or, length}
+use Rattle.table.proofs.Scans.{scan-at, scan-nowhere}
+use Rattle.table.proofs.scan.Given as goal
+
+abbrev pub invariant-loop-i : goal.invariant-loop-i
+invariant-loop-i l = (l.i ≤ l.n) × (l.n ≡ min l.k (length l.table)) × ((j : ℕ) → j < l.i → get_or l.table j 0 ≡ l.key → ⊥)
+
+abbrev pub decreases-loop-i : goal.decreases-loop-i
+decreases-loop-i l = l.n - l.i
