@@ -1,0 +1,9 @@
+use borrow.Author.Rules.{rules}
+use lib.ListN.{length}
+use Rattle.memory.proofs.Ends.{start-moves}
+use Rattle.memory.proofs.lay_out.Goals as goal
+
+pub returns : goal.returns
+returns c =
+    let a = c.args in
+    start-moves a.slots a.pool c.init-free.result c.init.new.table c.init-free.new.links (length a.table.now) c.init.ensures c.init-free.ensures
