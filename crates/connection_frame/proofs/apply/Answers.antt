@@ -1,0 +1,6 @@
+use borrow.Author.Rules.{rules}
+use mathlib.Core.Path.{refl}
+use Rattle.connection_frame.proofs.apply.Goals as goal
+
+pub returns-in-New : goal.returns-in-New
+returns-in-New c = rw c.in-New.is (refl, c.make-after.ensures)

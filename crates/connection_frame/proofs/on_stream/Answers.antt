@@ -1,0 +1,11 @@
+use borrow.Author.Rules.{rules}
+use Rattle.connection_frame.proofs.Arrives.{stream-handled}
+use Rattle.connection_frame.proofs.on_stream.Goals as goal
+
+pub returns : goal.returns
+returns c =
+    let a = c.args in
+    let f = c.find-found in
+    let w = c.apply-applied in
+    let applies = rw c.decide-decided.ensures at w.ensures in
+    rw c.settle.ensures (λ tagged n. stream-handled a.c a.table.now a.links.now a.pool.now a.header a.body.now a.time f.result f.ensures n w.result w.new.table w.new.links w.new.pool applies tagged)

@@ -1,0 +1,26 @@
+use mathlib.Core.Path.{refl, sym, ◌∙◌}
+use borrow.Author.Rules.{rules}
+use Rattle.rules.specs.Ending.{end}
+use Rattle.rules.specs.Step.{gone, step}
+use Rattle.rules.specs.declared.Reply.TheVariants as reply
+use Rattle.connection.specs.Abstract.{abs_of}
+use Rattle.connection.proofs.Promises.{promised}
+use Rattle.connection.proofs.Tests.{gate-shut, gate_open}
+use Rattle.connection_write.proofs.peer_gone.Goals as goal
+
+pub returns-in-Shut : goal.returns-in-Shut
+unfolding step
+returns-in-Shut c l p =
+    let a = c.args in
+    rw (c.refuse.ensures, ← c.table_fits-fits.ensures)
+    (gate-shut a.c a.table.now l p _ (gone a.time) a.time _ a.c.ended _ (sym c.judge-gate.ensures ∙ c.in-Shut.is) (λ v. refl))
+
+pub returns-in-Open : goal.returns-in-Open
+unfolding step
+returns-in-Open c l p =
+    let a = c.args in
+    let e = c.drop_all_streams in
+    let o = gate_open _ a.c.ended a.time (sym c.judge-gate.ensures ∙ c.in-Open.is) in
+    rw (← c.table_fits-fits.ensures)
+    (promised a.c a.table.now l p _ (gone a.time) o.0 (λ x. end x reply.Closed) e.result e.new.table l p
+    (λ v. o.1 (abs_of a.c a.table.now l p) (end (abs_of a.c a.table.now l p) reply.Closed)) (e.ensures l p refl))
