@@ -1,12 +1,12 @@
 -- Texts stored one after another are stored as one. Assumes nothing.
 use mathlib.Core.Path.{◌≡◌, refl, sym, ap, ◌∙◌}
-use mathlib.Core.List.{List, [], ◌∷◌, ◌++◌, append_assoc, append-nil}
+use mathlib.Core.List.{List, [], ◌∷◌, ◌++◌, append_assoc}
 use Prim.Native.Nat.{ℕ, suc, ◌+◌, ◌-◌, ◌≤◌, ◌<◌}
 use native.Mathlib.Nat.{add-zero, add_assoc}
 use native.Mathlib.Numerals.{add-one}
 use native.Mathlib.Omega.{arith}
-use lib.ListN.{length, take, drop, set, length-append, length-set, length-take, drop_of_length-le}
-use lib.Seq.{take-length, drop-drop, sets, length-sets, sets-eq}
+use lib.ListN.{length, take, drop, set, length-append, length-set}
+use lib.Seq.{drop-drop, sets, length-sets, sets-eq}
 use borrow.Author.Tests.{le-leb, lt-leb}
 use Rattle.trace_lines.specs.declared.Put.TheVariants.{At, Full}
 use Rattle.trace_lines.specs.Writing.{Stores, Writes}
@@ -40,13 +40,12 @@ module _ (o : List ℕ) (at : ℕ) where
 
   -- a text copied into the room from `at` on
   pub stores-copy : (text d : List ℕ) → at + length text ≤ length o → let n = at + length text - at in
-      d ≡ take (length text) text ++ drop (length text) (take n (drop at o)) → Stores o at text (take at o ++ (d ++ drop n (drop at o))) (at + length text)
+      d ≡ text → Stores o at text (take at o ++ (d ++ drop n (drop at o))) (at + length text)
   stores-copy text d f h =
       let n : ℕ = at + length text - at in
       let e : n ≡ length text = omega arith in
-      let z : drop (length text) (take n (drop at o)) ≡ [] = drop_of_length-le (take n (drop at o)) {i = length text} (omega (arith, length-take n (drop at o))) in
       let l : take at o ++ (d ++ drop n (drop at o)) ≡ sets o at text =
-      rw (h, take-length text, z, append-nil text, e, drop-drop (length text) at o, ← append_assoc (take at o) text (drop (at + length text) o)) (sym (sets-eq text o at f)) in
+      rw (h, e, drop-drop (length text) at o, ← append_assoc (take at o) text (drop (at + length text) o)) (sym (sets-eq text o at f)) in
       record { next = refl; left = l; size = ap length l ∙ length-sets o at text }
 
 -- what is stored with room is written

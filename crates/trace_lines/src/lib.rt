@@ -71,7 +71,7 @@ fn put_text(out: &mut [u8], at: usize, text: &[u8]) -> usize
     ensures { Stores out.old at text.now out.new result }
 {
     let end = at + text.len();
-    bytes::copy(text, &mut out[at..end]);
+    out[at..end].copy_from_slice(text);
     end
 }
 
