@@ -96,6 +96,7 @@ pub fn read_number(src: &[u8], at: usize) -> Number
 }
 
 // The number after another one.
+#[tactic(auto, unfolding(crate::specs::Format::following))]
 fn number_after(src: &[u8], first: Number) -> Number
     ensures { result ≡ following src.now first }
 {
@@ -141,6 +142,7 @@ fn event_of(now: u64, next: usize, kind: Kind) -> Parsed
     Parsed::Event(Event { now, next, kind })
 }
 
+#[tactic(auto, unfolding(crate::specs::Format::frame_at))]
 fn frame(src: &[u8], time: u64, p: usize) -> Parsed
     ensures { result ≡ frame_at src.now time p }
 {
@@ -168,6 +170,7 @@ fn frame(src: &[u8], time: u64, p: usize) -> Parsed
 }
 
 // The bytes to write, as many as the count says.
+#[tactic(auto, unfolding(crate::specs::Format::bytes_at))]
 fn write_bytes(src: &[u8], time: u64, slot: u64, size: usize, p: usize) -> Parsed
     ensures { result ≡ bytes_at src.now time slot size p }
 {
@@ -181,6 +184,7 @@ fn write_bytes(src: &[u8], time: u64, slot: u64, size: usize, p: usize) -> Parse
 }
 
 // What follows the slot of a read or a write.
+#[tactic(auto, unfolding(crate::specs::Format::count_at))]
 fn counted(src: &[u8], kind: u64, time: u64, slot: u64, p: usize) -> Parsed
     ensures { result ≡ count_at src.now kind time slot p }
 {
@@ -202,6 +206,7 @@ fn counted(src: &[u8], kind: u64, time: u64, slot: u64, p: usize) -> Parsed
 }
 
 // What follows the time of a call on a slot.
+#[tactic(auto, unfolding(crate::specs::Format::slot_at))]
 fn on_slot(src: &[u8], kind: u64, time: u64, p: usize) -> Parsed
     ensures { result ≡ slot_at src.now kind time p }
 {
@@ -218,6 +223,7 @@ fn on_slot(src: &[u8], kind: u64, time: u64, p: usize) -> Parsed
 }
 
 // What follows the kind and the time.
+#[tactic(auto, unfolding(crate::specs::Format::rest_at))]
 fn rest(src: &[u8], kind: u64, time: u64, p: usize) -> Parsed
     ensures { result ≡ rest_at src.now kind time p }
 {
@@ -231,6 +237,7 @@ fn rest(src: &[u8], kind: u64, time: u64, p: usize) -> Parsed
 }
 
 // What follows the kind.
+#[tactic(auto, unfolding(crate::specs::Format::time_at))]
 fn timed(src: &[u8], kind: u64, p: usize) -> Parsed
     ensures { result ≡ time_at src.now kind p }
 {
@@ -246,6 +253,7 @@ fn timed(src: &[u8], kind: u64, p: usize) -> Parsed
 }
 
 // The event at a place of a part of a trace.
+#[tactic(auto, unfolding(crate::specs::Format::event_at))]
 pub fn read_event(src: &[u8], at: usize) -> Parsed
     ensures { result ≡ event_at src.now at }
 {
@@ -258,6 +266,7 @@ pub fn read_event(src: &[u8], at: usize) -> Parsed
 }
 
 // The ten settings that a trace starts with.
+#[tactic(auto, unfolding(crate::specs::Format::settings_at))]
 pub fn read_settings(src: &[u8]) -> Preamble
     ensures { result ≡ settings_at src.now }
 {
