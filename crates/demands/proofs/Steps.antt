@@ -142,4 +142,4 @@ reached (then {c = c} r k) = (sound c (reached r) k).inv
 
 pub run_reaches : {c : Conn} → Reach c → (ks : List rules.Call) → Reach (rules.run c ks).after
 run_reaches r [] = r
-run_reaches r (k ∷ ks) = run_reaches (then r k) ks
+run_reaches {c = c} r (k ∷ ks) = run_reaches {c = (rules.step c k).after} (then r k) ks
