@@ -3,36 +3,21 @@ use borrow.Author.Rules.{rules}
 use Rattle.connection_read.proofs.Calls.{refused-call, held-call}
 use Rattle.connection_read.proofs.read.Goals as goal
 
--- for the clause returns-in-Refused-clause-promised
+-- the clauses by their names
+all : {A B : Type 0} → A × B → record { promised : A; outputs : B }
+all x = record { promised = x.0; outputs = x.1 }
+
 pub returns-in-Refused : goal.returns-in-Refused
 returns-in-Refused c =
     let a = c.args in
     rw (c.refuse.ensures, ← c.sized-fits.ensures)
-    (refused-call a.c a.table.now a.links.now a.pool.now a.slot.0 a.out.now a.time _ a.sent.now _ (sym c.held_row-found.ensures ∙ c.in-Refused.is))
+    (all (refused-call a.c a.table.now a.links.now a.pool.now a.slot.0 a.out.now a.time _ a.sent.now _ (sym c.held_row-found.ensures ∙ c.in-Refused.is)))
 
--- for the clause returns-in-Refused-clause-outputs
-pub returns-in-Refused : goal.returns-in-Refused
-returns-in-Refused c =
-    let a = c.args in
-    rw (c.refuse.ensures, ← c.sized-fits.ensures)
-    (refused-call a.c a.table.now a.links.now a.pool.now a.slot.0 a.out.now a.time _ a.sent.now _ (sym c.held_row-found.ensures ∙ c.in-Refused.is))
-
--- for the clause returns-in-Held-clause-promised
 pub returns-in-Held : goal.returns-in-Held
 returns-in-Held c =
     let a = c.args in
     let k = c.read_row-done in
     let w = c.put in
     rw (← c.sized-fits.ensures)
-    (held-call a.c a.table.now a.links.now a.pool.now a.slot.0 a.out.now a.time _ a.sent.now _ (sym c.held_row-found.ensures ∙ c.in-Held.is)
-    k.result k.new.table k.new.links k.new.out w.new.sent k.ensures w.ensures)
-
--- for the clause returns-in-Held-clause-outputs
-pub returns-in-Held : goal.returns-in-Held
-returns-in-Held c =
-    let a = c.args in
-    let k = c.read_row-done in
-    let w = c.put in
-    rw (← c.sized-fits.ensures)
-    (held-call a.c a.table.now a.links.now a.pool.now a.slot.0 a.out.now a.time _ a.sent.now _ (sym c.held_row-found.ensures ∙ c.in-Held.is)
-    k.result k.new.table k.new.links k.new.out w.new.sent k.ensures w.ensures)
+    (all (held-call a.c a.table.now a.links.now a.pool.now a.slot.0 a.out.now a.time _ a.sent.now _ (sym c.held_row-found.ensures ∙ c.in-Held.is)
+    k.result k.new.table k.new.links k.new.out w.new.sent k.ensures w.ensures))

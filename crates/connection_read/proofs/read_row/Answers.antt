@@ -17,13 +17,13 @@ returns-then-is_shut c h =
 pub take-requires : goal.take-requires
 take-requires c =
     let a = c.args in
-    rw c.step_of_lem.ensures (step_room a.c a.slot.0 a.row (length a.out.now) a.time)
+    rw c.step_of-step.ensures (step_room a.c a.slot.0 a.row (length a.out.now) a.time)
 
 pub returns : goal.returns
 returns c h =
     let a = c.args in
     let k = c.take in
-    let e = c.step_of_lem in
+    let e = c.step_of-step in
     let n = length a.out.now in
     let live = sym c.is_shut.ensures ∙ c.if-is_shut.false in
     same_reads a.c a.table.now a.links.now a.pool.now a.out.now

@@ -8,35 +8,25 @@ use Rattle.connection.proofs.Tests.{handle-shut}
 use Rattle.connection_write.proofs.Handles.{close_promised}
 use Rattle.connection_write.proofs.close.Goals as goal
 
--- for the clause returns-in-Refused-clause-by_index
+-- the clauses by their names
+all : {A B : Type 0} → A × B → record { by_index : A; gives : B }
+all x = record { by_index = x.0; gives = x.1 }
+
 pub returns-in-Refused : goal.returns-in-Refused
 unfolding step
 returns-in-Refused c =
     let a = c.args in
-    rw (c.refuse.ensures, ← c.table_fits.ensures) (
-      λ l p. handle-shut a.c a.table.now l p _ (close a.time a.slot.0) a.time a.slot.0 _ _
-          (sym c.held_row-found.ensures ∙ c.in-Refused.is) (λ v. refl),
-      refused-gives _ _ _,
-    )
+    rw (c.refuse.ensures, ← c.table_fits.ensures) (record {
+      by_index = λ l p. handle-shut a.c a.table.now l p _ (close a.time a.slot.0) a.time a.slot.0 _ _
+          (sym c.held_row-found.ensures ∙ c.in-Refused.is) (λ v. refl);
+      gives = refused-gives _ _ _;
+    })
 
--- for the clause returns-in-Held-clause-by_index
 pub returns-in-Held : goal.returns-in-Held
 returns-in-Held c =
     let a = c.args in
-    let f = c.found-in-Held-1.given in
-    let e = sym c.held_row-found.ensures ∙ f.1 in
+    let e = sym c.held_row-found.ensures ∙ c.in-Held.is in
     let k = rw c.on_close-step.ensures at c.keep.ensures in
     rw (← c.table_fits.ensures)
-    (close_promised _ a.c a.table.now a.time a.slot.0 f.0.0 e _ _ _ _
-    (λ h. let x = k h (close_same f.0.0.stream).0 refl in (λ l p. x.0 l p [], x.1)))
-
--- for the clause returns-in-Held-clause-gives
-pub returns-in-Held : goal.returns-in-Held
-returns-in-Held c =
-    let a = c.args in
-    let f = c.found-in-Held-1.given in
-    let e = sym c.held_row-found.ensures ∙ f.1 in
-    let k = rw c.on_close-step.ensures at c.keep.ensures in
-    rw (← c.table_fits.ensures)
-    (close_promised _ a.c a.table.now a.time a.slot.0 f.0.0 e _ _ _ _
-    (λ h. let x = k h (close_same f.0.0.stream).0 refl in (λ l p. x.0 l p [], x.1)))
+    (all (close_promised _ a.c a.table.now a.time a.slot.0 c.in-Held.row e _ _ _ _
+    (λ h. let x = k h (close_same c.in-Held.row.stream).0 refl in (λ l p. x.0 l p [], x.1))))

@@ -9,38 +9,20 @@ use Rattle.connection.proofs.Tests.{gate-shut, gate_open}
 use Rattle.connection_write.proofs.Handles.{tick_handles}
 use Rattle.connection_write.proofs.tick.Goals as goal
 
--- for the clause returns-in-Shut-clause-by_index
 pub returns-in-Shut : goal.returns-in-Shut
 unfolding step
 returns-in-Shut c =
     let a = c.args in
-    rw (c.refuse.ensures, ← c.table_fits.ensures) (
-      λ l p. gate-shut a.c a.table.now l p _ (tick a.time) a.time _ a.c.ended _ (sym c.judge-gate.ensures ∙ c.in-Shut.is) (λ v. refl),
-      refused-gives _ _ _,
-    )
+    rw (c.refuse.ensures, ← c.table_fits.ensures) (record { by_index = λ l p. gate-shut a.c a.table.now l p _ (tick a.time) a.time _ a.c.ended _ (sym c.judge-gate.ensures ∙ c.in-Shut.is) (λ v. refl); gives = refused-gives _ _ _ })
 
--- for the clause returns-in-Open-clause-by_index
 pub returns-in-Open : goal.returns-in-Open
 unfolding step
 returns-in-Open c =
     let a = c.args in
     let o = gate_open _ a.c.ended a.time (sym c.judge-gate.ensures ∙ c.in-Open.is) in
     let h = tick_handles a.c a.table.now a.time _ c.on_tick-step.ensures in
-    rw (c.pinged.ensures, ← c.table_fits.ensures) (
-      λ l p. promised a.c a.table.now l p _ (tick a.time) o.0 (λ x. tick_rules x a.time) _ a.table.now l p
-          (λ v. o.1 (abs_of a.c a.table.now l p) (tick_rules (abs_of a.c a.table.now l p) a.time)) (h l p),
-      record { header = c.put.ensures; silent = (h [] []).silent },
-    )
-
--- for the clause returns-in-Open-clause-gives
-pub returns-in-Open : goal.returns-in-Open
-unfolding step
-returns-in-Open c =
-    let a = c.args in
-    let o = gate_open _ a.c.ended a.time (sym c.judge-gate.ensures ∙ c.in-Open.is) in
-    let h = tick_handles a.c a.table.now a.time _ c.on_tick-step.ensures in
-    rw (c.pinged.ensures, ← c.table_fits.ensures) (
-      λ l p. promised a.c a.table.now l p _ (tick a.time) o.0 (λ x. tick_rules x a.time) _ a.table.now l p
-          (λ v. o.1 (abs_of a.c a.table.now l p) (tick_rules (abs_of a.c a.table.now l p) a.time)) (h l p),
-      record { header = c.put.ensures; silent = (h [] []).silent },
-    )
+    rw (c.pinged.ensures, ← c.table_fits.ensures) (record {
+      by_index = λ l p. promised a.c a.table.now l p _ (tick a.time) o.0 (λ x. tick_rules x a.time) _ a.table.now l p
+          (λ v. o.1 (abs_of a.c a.table.now l p) (tick_rules (abs_of a.c a.table.now l p) a.time)) (h l p);
+      gives = record { header = c.put.ensures; silent = (h [] []).silent };
+    })
