@@ -13,8 +13,8 @@ import os
 import re
 import sys
 
-# the facts that began small, and two lemmas that would fall together with a definition
-GIVEN = {"about": "IsAbout", "aboutDecoded": "IsAboutDecoded", "livesAt": "IsAliveAt", "by_two": "by_two_lem", "data-frame": "data_frame_lem"}
+# the facts that began small, two lemmas that would fall together with a definition, and a constructor
+GIVEN = {"about": "IsAbout", "aboutDecoded": "IsAboutDecoded", "livesAt": "IsAliveAt", "by_two": "by_two_lem", "data-frame": "data_frame_lem", "open-stream": "open_stream"}
 # std's words of an older kit, in the edits that port.py leaves
 WORDS = {"getD": "get_or", "_≡_": "◌≡◌"}
 KIT = "/opt/rattle/rattle/std"
@@ -73,7 +73,7 @@ def rows():
             table[n] = ("-" if all_names(parts, known) else "_").join(parts)
         else:
             table[n] = snake(n)
-    return {old: new for old, new in table.items() if old != new}, names
+    return {old: new for old, new in (GIVEN | table).items() if old != new}, names
 
 
 def turned(text, table):

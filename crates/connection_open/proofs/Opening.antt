@@ -15,7 +15,7 @@ use Rattle.rules.specs.State.{Entry, Conn, entry, vacant, is_own, has_id, find, 
 use Rattle.rules.specs.State as rules
 use Rattle.rules.specs.Frames.{new_entry}
 use Rattle.rules.specs.Calls.{open_rules}
-use Rattle.rules.specs.Step.{step, open-stream}
+use Rattle.rules.specs.Step.{step, open_stream}
 use Rattle.rules.specs.declared.Mode.{Mode}
 use Rattle.rules.specs.declared.Mode.TheVariants.{Client, Server}
 use Rattle.rules.specs.declared.Reply.{Reply}
@@ -151,15 +151,15 @@ module _ (c : Connection) (t l p : List ℕ) (now : ℕ) where
 
   -- ---- the gate
 
-  pub shut : (sized : Bool) (r : Reply) → gate_of sized c.ended now ≡ gate.Shut r → Promised sized c t l p (open-stream now) (refused c r) t l p
+  pub shut : (sized : Bool) (r : Reply) → gate_of sized c.ended now ≡ gate.Shut r → Promised sized c t l p (open_stream now) (refused c r) t l p
   unfolding step
-  shut sized r e = gate-shut c t l p sized (open-stream now) now (open_rules a now) c.ended r e (λ v. refl)
+  shut sized r e = gate-shut c t l p sized (open_stream now) now (open_rules a now) c.ended r e (λ v. refl)
 
   pub entered : (sized : Bool) → gate_of sized c.ended now ≡ gate.Open → (d : Done) (t' l' p' : List ℕ)
-      → Acts c t l p (decided c t now) d t' l' p' → Promised sized c t l p (open-stream now) d t' l' p'
+      → Acts c t l p (decided c t now) d t' l' p' → Promised sized c t l p (open_stream now) d t' l' p'
   unfolding step
   entered sized e d t' l' p' acts =
       let o = gate_open sized c.ended now e in
-      promised c t l p sized (open-stream now) o.0 (λ x. perform_open x (decided c t now)) d t' l' p'
+      promised c t l p sized (open_stream now) o.0 (λ x. perform_open x (decided c t now)) d t' l' p'
       (λ v. o.1 a (open_rules a now) ∙ open_performs a now ∙ ap (perform_open a) (sym (decided-rules v)))
       (acts sound fitting)

@@ -5,7 +5,7 @@ mod acts;
 
 ghost use Rattle.std.specs.Prelude.{◌≡◌, length};
 ghost use Rattle.rules.specs.State.{first_own};
-ghost use Rattle.rules.specs.Step.{open-stream};
+ghost use Rattle.rules.specs.Step.{open_stream};
 ghost use Rattle.memory.specs.Counts.{fits};
 ghost use Rattle.connection.specs.Promises.{Promised};
 ghost use Rattle.connection_open.specs.Start.{started, number, Lays, Creates};
@@ -105,7 +105,7 @@ pub fn new(settings: Settings, table: &mut [u64], links: &mut [u32], pool: &mut 
 
 // Opens a stream of our own.
 pub fn open(c: Connection, table: &mut [u64], links: &mut [u32], pool: &mut [u8], time: u64) -> Done
-    ensures { Promised (fits c.memory.slots c.memory.pool (length table.old) (length links.old) (length pool.old)) c table.old links.old pool.old (open-stream time) result table.new links.new pool.new }
+    ensures { Promised (fits c.memory.slots c.memory.pool (length table.old) (length links.old) (length pool.old)) c table.old links.old pool.old (open_stream time) result table.new links.new pool.new }
 {
     let memory = c.memory;
     let right = memory::fits(

@@ -62,7 +62,7 @@ frame_still (found.Header h) c body o =
 pub event_still : (c : Conn) (k : rules.Call) (o : Outcome) → moves_growth k ≡ false → moves (event c k o) ≡ false
 event_still c (rules.tick now) o s = refl
 event_still c (rules.frame now head body) o s = frame_still (decoded head) c body o
-event_still c (rules.open-stream now) o s = cond_still (is_done o.reply) _ (tells_still o.slot o.value [] nothing refl)
+event_still c (rules.open_stream now) o s = cond_still (is_done o.reply) _ (tells_still o.slot o.value [] nothing refl)
 event_still c (rules.read now i asked) o s = true-not-false refl s
 event_still c (rules.write now i given) o s = refl
 event_still c (rules.close now i) o s = refl
@@ -95,7 +95,7 @@ quiet-fronts c k s = still_fronts (event c k (step c k).outcome) (bytes_of c.slo
 fronts : (c : Conn) (k : rules.Call) → Fronts (event c k (step c k).outcome) (bytes_of c.slots)
 fronts c (rules.tick now) = tt
 fronts c (rules.frame now head body) = quiet-fronts c (rules.frame now head body) refl
-fronts c (rules.open-stream now) = quiet-fronts c (rules.open-stream now) refl
+fronts c (rules.open_stream now) = quiet-fronts c (rules.open_stream now) refl
 fronts c (rules.read now i asked) = front c now i asked
 fronts c (rules.write now i given) = tt
 fronts c (rules.close now i) = tt

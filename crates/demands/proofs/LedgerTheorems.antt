@@ -67,7 +67,7 @@ module _ (c : Conn) (v : Inv c) (b : ℕ → Account) (h : Balance b c.slots) wh
   unfolding step
   call-balances (rules.tick now) = live-ok (λ r. Balance b r.after.slots) now _ h h (λ l. ticks now)
   call-balances (rules.frame now head body) = decodes (decoded head) body now
-  call-balances (rules.open-stream now) = live-ok (Booked (rules.open-stream now)) now _ h h (λ l. opens-balance c b h now)
+  call-balances (rules.open_stream now) = live-ok (Booked (rules.open_stream now)) now _ h h (λ l. opens-balance c b h now)
   call-balances (rules.read now i asked) =
       let still = account-changes b c.slots h i (b i) (h i) in
       holding-ok (Booked (rules.read now i asked)) now i _ still still (λ l. reads-balance c b h i l asked now)

@@ -101,7 +101,7 @@ module _ (c : Conn) (v : Inv c) (now : ℕ) where
       let left = sum-spare (λ (x : Entry). x.held) c.slots i vacant f.0 (free_held (entry c.slots i).held f.1) in
       neither (λ x. omega (arith, x.1, left, v.size)) (λ x. x) reply.Done (refl, refl)
 
-  opens-limits : OpenOk (step c (rules.open-stream now))
+  opens-limits : OpenOk (step c (rules.open_stream now))
   unfolding step open_rules
   opens-limits =
       split OpenOk (ltb last_time now)
@@ -137,7 +137,7 @@ module _ (c : Conn) (v : Inv c) where
       over_as (λ e. let b = both (would_queue c now head body) _ e in (b.0, ltb-true (room c) (length body) b.1))
       (λ x. rw x.0 (lt-ltb (room c) (length body) x.1))
       (exact c v body now (decoded head)).limits
-  limits (rules.open-stream now) = opens-limits c v now
+  limits (rules.open_stream now) = opens-limits c v now
   limits (rules.read now i asked) =
       plain _ (timed-plain c now _ (holding-plain c i _ (split Plain (ended_for_reads c) (λ e. (refl, refl)) (λ e. read_plain c i _ _ _ _))))
   limits (rules.write now i given) =

@@ -68,8 +68,8 @@ module _ (c : Conn) (v : Inv c) where
   unfolding step
   sound (rules.tick now) = timed-ok _ (λ r. nothing) now _ (λ j. refl) (live-ok _ (λ r. nothing) _ (λ j. refl) (λ l. ticks c v now))
   sound (rules.frame now head body) = decodes (decoded head) body now
-  sound (rules.open-stream now) =
-      let e : Result → Event = λ r. event c (rules.open-stream now) r.outcome in
+  sound (rules.open_stream now) =
+      let e : Result → Event = λ r. event c (rules.open_stream now) r.outcome in
       timed-ok _ e now _ (λ j. refl) (live-ok _ e _ (λ j. refl) (λ l. opens-stream c v l now))
   sound (rules.read now i asked) =
       let e : Result → Event = λ r. event c (rules.read now i asked) r.outcome in

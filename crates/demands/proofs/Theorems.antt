@@ -125,7 +125,7 @@ no_room : (c : Conn) → Inv c → (n : ℕ) (k : rules.Call) →
     held_count c.slots ≤ n → (would_make c k ≡ true → held_count c.slots + 1 ≤ n) → Overflows c k → ⊥
 no_room c v n (rules.tick now) p h o x = x
 no_room c v n (rules.frame now head body) p h o x = roomy c v body n (would_open c now head body) x.1 (queued-for c v body now (decoded head) x.0) p h o
-no_room c v n (rules.open-stream now) p h o x = x
+no_room c v n (rules.open_stream now) p h o x = x
 no_room c v n (rules.read now i asked) p h o x = x
 no_room c v n (rules.write now i given) p h o x = x
 no_room c v n (rules.close now i) p h o x = x
@@ -169,8 +169,8 @@ ids_are_ours c r now id g =
 
 pub ids_rise : IdsRise
 ids_rise c r now later a b ks g h =
-    let d = (step c (rules.open-stream now)).after in
-    let m : Reach d = then r (rules.open-stream now) in
+    let d = (step c (rules.open_stream now)).after in
+    let m : Reach d = then r (rules.open_stream now) in
     let first = gave c (reached r) now a g in
     let second = gave (run d ks).after (reached (run_reaches m ks)) later b h in
     omega (arith, first.0, first.1, second.0, run_rises d (reached m) ks)

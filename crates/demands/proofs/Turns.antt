@@ -213,7 +213,7 @@ module _ (c : Conn) (now i : ℕ) (held : (entry c.slots i).held ≡ true) where
 
 module _ (c : Conn) (now : ℕ) where
   abbrev OpenOk : Result → Type 0
-  OpenOk r = Turn c (rules.open-stream now) r
+  OpenOk r = Turn c (rules.open_stream now) r
 
   opens_at : c.next_id + 2 ≤ top → (p : Place) → Says is_free c.slots vacant p → OpenOk (open_at p c now)
   unfolding open_at
@@ -273,7 +273,7 @@ module _ (c : Conn) (v : Inv c) where
   unfolding step
   turns (rules.tick now) = timed-ok c _ now _ (live-ok c _ _ (λ l. ticks c now))
   turns (rules.frame now head body) = decodes (decoded head) head body now
-  turns (rules.open-stream now) = timed-ok c _ now _ (live-ok c _ _ (λ l. opens c now))
+  turns (rules.open_stream now) = timed-ok c _ now _ (live-ok c _ _ (λ l. opens c now))
   turns (rules.read now i asked) = timed-ok c _ now _ (holding-ok c _ i _ (λ h. reads c now i h asked))
   turns (rules.write now i given) = timed-ok c _ now _ (holding-ok c _ i _ (λ h. writes c now i h given))
   turns (rules.close now i) = timed-ok c _ now _ (holding-ok c _ i _ (λ h. closes c now i h))
@@ -344,11 +344,11 @@ given-next : (c d : Conn) (id : ℕ) → Next c (id ∷ []) d → Given c id d
 given-next c d id (inl e) = absurd (suc-ne-zero _ (ap length e.0))
 given-next c d id (inr e) = (head_is id c.next_id e.0, e.1, e.2)
 
-pub gave : (c : Conn) → Inv c → (now id : ℕ) → let r = step c (rules.open-stream now) in Gave r id → Given c id r.after
+pub gave : (c : Conn) → Inv c → (now id : ℕ) → let r = step c (rules.open_stream now) in Gave r id → Given c id r.after
 gave c v now id g =
-    let r = step c (rules.open-stream now) in
-    let is : id_of (rules.open-stream now) r.outcome ≡ id ∷ [] = rw (g.0, g.1) in
-    given-next c r.after id (subst (λ (l : List ℕ). Next c l r.after) is (turns c v (rules.open-stream now)).next)
+    let r = step c (rules.open_stream now) in
+    let is : id_of (rules.open_stream now) r.outcome ≡ id ∷ [] = rw (g.0, g.1) in
+    given-next c r.after id (subst (λ (l : List ℕ). Next c l r.after) is (turns c v (rules.open_stream now)).next)
 
 -- ids by 2 before ids by 2
 joined : (c d : Conn) (given rest : List ℕ) → Next c given d → rest ≡ by_two (length rest) d.next_id → given ++ rest ≡ by_two (length (given ++ rest)) c.next_id

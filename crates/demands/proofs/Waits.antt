@@ -32,7 +32,7 @@ use Rattle.demands.proofs.Woken.{at_is, not_at, end_off}
 abbrev Mine : rules.Call → ℕ → Type 0
 Mine (rules.tick now) j = ⊥
 Mine (rules.frame now head body) j = ⊥
-Mine (rules.open-stream now) j = ⊥
+Mine (rules.open_stream now) j = ⊥
 Mine (rules.read now i asked) j = i ≡ j
 Mine (rules.write now i given) j = i ≡ j
 Mine (rules.close now i) j = i ≡ j
@@ -51,7 +51,7 @@ module _ (c : Conn) (v : Inv c) where
   unfolding step
   waits (rules.tick now) = timed-ok c itself none nowhere now _ (live-ok c itself none nowhere _ (λ l. ticks c l now))
   waits (rules.frame now head body) = decodes (decoded head) body now
-  waits (rules.open-stream now) = timed-ok c itself none nowhere now _ (live-ok c itself none nowhere _ (λ l. opens c l now))
+  waits (rules.open_stream now) = timed-ok c itself none nowhere now _ (live-ok c itself none nowhere _ (λ l. opens c l now))
   waits (rules.read now i asked) = timed-ok c _ _ nowhere now _ (holding-ok c _ _ nowhere i _ (λ h. reads c i h asked now))
   waits (rules.write now i given) = timed-ok c _ _ nowhere now _ (holding-ok c _ _ nowhere i _ (λ h. writes c i h given))
   waits (rules.close now i) = timed-ok c _ _ nowhere now _ (holding-ok c _ _ nowhere i _ (λ h. closes c i h))
@@ -107,7 +107,7 @@ module _ (c : Conn) (v : Inv c) (j : ℕ) where
   rest : (k : rules.Call) → (woken c k ≡ at j → ⊥) → Rest k
   rest (rules.tick now) n = inl (λ a. a)
   rest (rules.frame now head body) n = inl (λ a. n (about-woken (decoded head) c j a))
-  rest (rules.open-stream now) n = inl (λ a. a)
+  rest (rules.open_stream now) n = inl (λ a. a)
   rest (rules.read now i asked) n = own-slot i (ℕ_discrete i j)
   rest (rules.write now i given) n = own-slot i (ℕ_discrete i j)
   rest (rules.close now i) n = own-slot i (ℕ_discrete i j)

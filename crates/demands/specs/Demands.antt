@@ -113,7 +113,7 @@ open_passes c now =
 abbrev pub would_make : Conn → rules.Call → Bool
 would_make c (rules.tick now) = false
 would_make c (rules.frame now head body) = would_open c now head body
-would_make c (rules.open-stream now) = open_passes c now
+would_make c (rules.open_stream now) = open_passes c now
 would_make c (rules.read now i asked) = false
 would_make c (rules.write now i given) = false
 would_make c (rules.close now i) = false
@@ -124,7 +124,7 @@ would_make c (rules.gone now) = false
 abbrev pub Overflows : Conn → rules.Call → Type 0
 Overflows c (rules.tick now) = ⊥
 Overflows c (rules.frame now head body) = (would_queue c now head body ≡ true) × (room c < length body)
-Overflows c (rules.open-stream now) = ⊥
+Overflows c (rules.open_stream now) = ⊥
 Overflows c (rules.read now i asked) = ⊥
 Overflows c (rules.write now i given) = ⊥
 Overflows c (rules.close now i) = ⊥

@@ -120,7 +120,7 @@ IsAboutDecoded (found.Header h) c j = find c.slots h.stream_id ≡ at j
 abbrev pub IsAbout : Conn → rules.Call → ℕ → Type 0
 IsAbout c (rules.tick now) j = ⊥
 IsAbout c (rules.frame now head body) j = IsAboutDecoded (decoded head) c j
-IsAbout c (rules.open-stream now) j = ⊥
+IsAbout c (rules.open_stream now) j = ⊥
 IsAbout c (rules.read now i asked) j = i ≡ j
 IsAbout c (rules.write now i given) j = i ≡ j
 IsAbout c (rules.close now i) j = i ≡ j

@@ -81,7 +81,7 @@ by_frame (found.Header h) c body o = by_tag h.tag h body (find c.slots h.stream_
 abbrev pub event : Conn → rules.Call → Outcome → Event
 event c (rules.tick now) o = nothing
 event c (rules.frame now head body) o = by_frame (decoded head) c body o
-event c (rules.open-stream now) o = cond (is_done o.reply) (tells o.slot o.value [] nothing) nothing
+event c (rules.open_stream now) o = cond (is_done o.reply) (tells o.slot o.value [] nothing) nothing
 event c (rules.read now i asked) o = gave_out i o.bytes
 event c (rules.write now i given) o = nothing
 event c (rules.close now i) o = nothing

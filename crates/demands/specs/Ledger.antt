@@ -94,7 +94,7 @@ booked_decoded (found.Header h) c body o b = booked_frame h body (find c.slots h
 abbrev pub booked : Conn → rules.Call → Outcome → (ℕ → Account) → ℕ → Account
 booked c (rules.tick now) o b = b
 booked c (rules.frame now head body) o b = booked_decoded (decoded head) c body o b
-booked c (rules.open-stream now) o b = cond (is_done o.reply) (opened o.slot o.value blank b b) b
+booked c (rules.open_stream now) o b = cond (is_done o.reply) (opened o.slot o.value blank b b) b
 booked c (rules.read now i asked) o b = put i (went_out o.header (b i)) b
 booked c (rules.write now i given) o b = put i (went_out o.header (b i)) b
 booked c (rules.close now i) o b = put i (went_out o.header (b i)) b

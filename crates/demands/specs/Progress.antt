@@ -141,7 +141,7 @@ abbrev pub OpenIsGiven : Type 0
 OpenIsGiven =
     (c : Conn) → Reach c → (now : ℕ) → now ≤ last_time → c.ended ≡ false → listed_count c.slots < c.config.max_num_streams →
     unacknowledged c.config.mode c.slots < 256 → c.next_id + 2 ≤ top → held_count c.slots < c.config.slots →
-    let r = step c (rules.open-stream now) in
+    let r = step c (rules.open_stream now) in
     Gave r c.next_id × InLowest c r (new_entry (new_outbound (record { 0 = c.next_id }) now) [])
 
 -- "the window falls by n, and a Data frame carries the first n bytes": n bytes of those given are sent for slot i, under a Data header

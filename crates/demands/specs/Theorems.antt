@@ -52,7 +52,7 @@ GrowthIsReturned =
 abbrev pub moves_growth : rules.Call → Bool
 moves_growth (rules.tick now) = false
 moves_growth (rules.frame now head body) = false
-moves_growth (rules.open-stream now) = false
+moves_growth (rules.open_stream now) = false
 moves_growth (rules.read now i asked) = true
 moves_growth (rules.write now i given) = false
 moves_growth (rules.close now i) = false
@@ -195,19 +195,19 @@ last_own Server = 4294967292
 -- "ids start at 1 (client) or 2 (server) and go by 2": an id given has our parity and is at most the last one.
 abbrev pub IdsAreOurs : Type 0
 IdsAreOurs =
-    (c : Conn) → Reach c → (now id : ℕ) → Gave (step c (rules.open-stream now)) id →
+    (c : Conn) → Reach c → (now id : ℕ) → Gave (step c (rules.open_stream now)) id →
     (id ≤ last_own c.config.mode) × (id % 2 ≡ first_own c.config.mode % 2)
 
 -- None is given twice: whatever calls stand between, a later id is above an earlier one.
 abbrev pub IdsRise : Type 0
 IdsRise =
     (c : Conn) → Reach c → (now later a b : ℕ) (ks : List rules.Call) →
-    Gave (step c (rules.open-stream now)) a → Gave (step (run (step c (rules.open-stream now)).after ks).after (rules.open-stream later)) b → a < b
+    Gave (step c (rules.open_stream now)) a → Gave (step (run (step c (rules.open_stream now)).after ks).after (rules.open_stream later)) b → a < b
 
 abbrev pub is_open : rules.Call → Bool
 is_open (rules.tick now) = false
 is_open (rules.frame now head body) = false
-is_open (rules.open-stream now) = true
+is_open (rules.open_stream now) = true
 is_open (rules.read now i asked) = false
 is_open (rules.write now i given) = false
 is_open (rules.close now i) = false

@@ -40,7 +40,7 @@ woken_decoded (found.Header h) c = find c.slots h.stream_id
 abbrev pub woken : Conn → rules.Call → Place
 woken c (rules.tick now) = nowhere
 woken c (rules.frame now head body) = woken_decoded (decoded head) c
-woken c (rules.open-stream now) = nowhere
+woken c (rules.open_stream now) = nowhere
 woken c (rules.read now i asked) = nowhere
 woken c (rules.write now i given) = nowhere
 woken c (rules.close now i) = nowhere
@@ -51,7 +51,7 @@ woken c (rules.gone now) = nowhere
 abbrev pub told_for : rules.Call → ℕ → ℕ
 told_for (rules.tick now) j = j
 told_for (rules.frame now head body) j = j
-told_for (rules.open-stream now) j = j
+told_for (rules.open_stream now) j = j
 told_for (rules.read now i asked) j = i
 told_for (rules.write now i given) j = i
 told_for (rules.close now i) j = i
@@ -62,7 +62,7 @@ told_for (rules.gone now) j = j
 abbrev pub DropsOutside : Conn → rules.Call → ℕ → Type 0
 DropsOutside c (rules.tick now) j = ⊥
 DropsOutside c (rules.frame now head body) j = ⊥
-DropsOutside c (rules.open-stream now) j = ⊥
+DropsOutside c (rules.open_stream now) j = ⊥
 DropsOutside c (rules.read now i asked) j = ⊥
 DropsOutside c (rules.write now i given) j = ⊥
 DropsOutside c (rules.close now i) j = ⊥
@@ -120,7 +120,7 @@ EndingIsReported =
 abbrev pub Waiting : rules.Call → Conn → Type 0
 Waiting (rules.tick now) d = ⊥
 Waiting (rules.frame now head body) d = ⊥
-Waiting (rules.open-stream now) d = d.open_wait ≡ true
+Waiting (rules.open_stream now) d = d.open_wait ≡ true
 Waiting (rules.read now i asked) d = (entry d.slots i).stream.reader ≡ true
 Waiting (rules.write now i given) d = (entry d.slots i).stream.writer ≡ true
 Waiting (rules.close now i) d = ⊥
@@ -135,7 +135,7 @@ WaitsAreSet =
     r.outcome.reply ≡ reply.Wait → Waiting k r.after × (r.outcome.value ≡ value.None)
 
 abbrev pub Opens : rules.Call → Type 0
-Opens k = (now : ℕ) × (k ≡ rules.open-stream now)
+Opens k = (now : ℕ) × (k ≡ rules.open_stream now)
 
 abbrev pub Reads : rules.Call → ℕ → Type 0
 Reads k j = (now : ℕ) × (asked : ℕ) × (k ≡ rules.read now j asked)

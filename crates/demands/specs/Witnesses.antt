@@ -102,7 +102,7 @@ keeps_mark = syn_data 0 2 0 ∷ (writes 17 ++ (rules.close 0 0 ∷ rules.frame 0
 
 -- 256 opens that no ACK answers, and one that waits behind them
 abbrev pub opens_and_waits : List rules.Call
-opens_and_waits = replicate 257 (rules.open-stream 0)
+opens_and_waits = replicate 257 (rules.open_stream 0)
 
 -- ---- long runs
 
@@ -123,7 +123,7 @@ echoes (suc n) = [] ∷ (n ∷ (n + 1) ∷ []) ∷ echoes n
 -- a run through all replies but 4, which takes some 2^31 opens, and those two that end it before the end: 11 and 12
 abbrev pub mixed : List rules.Call
 mixed =
-    rules.open-stream 0
+    rules.open_stream 0
     ∷ rules.read 0 0 1
     ∷ rules.frame 0 (head 0 1 3 0) []
     ∷ syn_data 0 2 4
@@ -139,7 +139,7 @@ mixed =
     ∷ syn_data 0 4 0
     ∷ rules.drop 0 1
     ∷ syn_data 0 4 0
-    ∷ rules.open-stream 0
+    ∷ rules.open_stream 0
     ∷ rules.tick 0
     ∷ []
 
@@ -147,10 +147,10 @@ abbrev pub mixed_replies : List ℕ
 mixed_replies = 0 ∷ 1 ∷ 2 ∷ 0 ∷ 8 ∷ 13 ∷ 9 ∷ 10 ∷ 14 ∷ 0 ∷ 6 ∷ 0 ∷ 0 ∷ 7 ∷ 0 ∷ 0 ∷ 3 ∷ 5 ∷ []
 
 abbrev pub unknown_version : List rules.Call
-unknown_version = rules.frame 0 (1 ∷ zeros 11) [] ∷ rules.open-stream 0 ∷ []
+unknown_version = rules.frame 0 (1 ∷ zeros 11) [] ∷ rules.open_stream 0 ∷ []
 
 abbrev pub unknown_type : List rules.Call
-unknown_type = rules.frame 0 (0 ∷ 4 ∷ zeros 10) [] ∷ rules.open-stream 0 ∷ []
+unknown_type = rules.frame 0 (0 ∷ 4 ∷ zeros 10) [] ∷ rules.open_stream 0 ∷ []
 
 -- ---- what they come to
 

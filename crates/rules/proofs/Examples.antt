@@ -46,7 +46,7 @@ settings = record {
 
 pub calls : List Step.Call
 calls =
-    Step.open-stream 0
+    Step.open_stream 0
     ∷ Step.write 0 0 (100 ∷ 117 ∷ 115 ∷ 116 ∷ [])
     ∷ Step.frame 0 (0 ∷ 1 ∷ 0 ∷ 2 ∷ 0 ∷ 0 ∷ 0 ∷ 1 ∷ 0 ∷ 0 ∷ 0 ∷ 0 ∷ []) []
     ∷ Step.read 0 0 4
@@ -122,7 +122,7 @@ numbered o r v = cond (eqb (number o.reply) r) (valued o.value v) false
 -- an open on a connection whose next id is this one
 pub opens : Mode → ℕ → Outcome
 unfolding config
-opens m id = (Step.step (with_next_id (initial (config m)) id) (Step.open-stream 0)).outcome
+opens m id = (Step.step (with_next_id (initial (config m)) id) (Step.open_stream 0)).outcome
 
 zeros : ℕ → List ℕ
 zeros n = replicate n 0

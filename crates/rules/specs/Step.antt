@@ -16,7 +16,7 @@ use Rattle.rules.specs.Calls.{open_rules, read_rules, write_rules, close_rules, 
 pub data Call : Type 0 where
   tick : ℕ → Call
   frame : ℕ → List ℕ → List ℕ → Call
-  open-stream : ℕ → Call
+  open_stream : ℕ → Call
   read : ℕ → ℕ → ℕ → Call
   write : ℕ → ℕ → List ℕ → Call
   close : ℕ → ℕ → Call
@@ -46,7 +46,7 @@ on_decoded (found.Header h) c body now = timed c now (live c (on_header c h body
 unfoldable pub step : Conn → Call → Result
 step c (tick now) = timed c now (live c (tick_rules c now))
 step c (frame now head body) = on_decoded (decoded head) c body now
-step c (open-stream now) = timed c now (live c (open_rules c now))
+step c (open_stream now) = timed c now (live c (open_rules c now))
 step c (read now i asked) = timed c now (holding c i (read_rules c i (entry c.slots i) asked now))
 step c (write now i given) = timed c now (holding c i (write_rules c i (entry c.slots i) given))
 step c (close now i) = timed c now (holding c i (close_rules c i (entry c.slots i)))

@@ -147,9 +147,9 @@ module _ (c : Connection) (t l p sent : List ℕ) where
 
   module _ (s : List ℕ) (e : Event) (d : Done) (t' l' p' bytes' : List ℕ) where
     pub open-applies : e.kind ≡ kinds.Open
-        → Promised (fits c.memory.slots c.memory.pool (length t) (length l) (length p)) c t l p (rules.open-stream e.now) d t' l' p' → Applies c t l p sent s e d t' l' p' sent bytes'
+        → Promised (fits c.memory.slots c.memory.pool (length t) (length l) (length p)) c t l p (rules.open_stream e.now) d t' l' p' → Applies c t l p sent s e d t' l' p' sent bytes'
     open-applies q k =
-        let x = rules.open-stream e.now in
+        let x = rules.open_stream e.now in
         made_as s e d t' l' p' sent bytes' kinds.Open x _ q refl (λ v. refl) (λ v w. sized-fits c.memory t l p v.memory.sized)
         (open-silent (abs_of c t l p) e.now) (headless x d t' l' p' sent bytes' (open-headless (abs_of c t l p) e.now)) k
 

@@ -160,7 +160,8 @@ one_fed k c s n ps r inside e ih = ap (λ (q : Traced). onward r (shifted r.at q
 pub in_parts : (k : ℕ) (c : Conn) (rest : List ℕ) (n : ℕ) (ps : List Part) → feeds k c rest n ps ≡ runs k c (rest ++ joined ps) 0 n endless
 in_parts k c rest n [] = ap (λ (l : List ℕ). runs k c l 0 n endless) (sym (append-nil rest))
 in_parts k c rest n (p ∷ ps) =
+    let r = runs k c (rest ++ p.bytes) 0 n p.room in
     one_fed k c (rest ++ p.bytes) n ps (runs k c (rest ++ p.bytes) 0 n p.room) (runs_inside k c (rest ++ p.bytes) 0 n p.room (omega arith))
     (goes_on (rest ++ p.bytes) (joined ps) k k c 0 n p.room (omega arith))
-    (in_parts _ _ _ _ ps)
+    (in_parts (k - r.applied) r.after (drop r.at (rest ++ p.bytes)) (n + r.applied) ps)
     ∙ ap (λ (l : List ℕ). runs k c l 0 n endless) (append_assoc rest p.bytes (joined ps))

@@ -168,11 +168,11 @@ module _ (c : Conn) (now : ℕ) where
   slot-headless nowhere = record { bare = refl }
   slot-headless (at i) = record { bare = refl }
 
-  pub open-silent : Silent (step c (rules.open-stream now))
+  pub open-silent : Silent (step c (rules.open_stream now))
   unfolding step
   open-silent = while-live Silent c now _ (refuse_silent c) (opens Silent (record { none = refl }) (record { none = refl }) (record { none = refl }) slot-silent)
 
-  pub open-headless : Headless (step c (rules.open-stream now))
+  pub open-headless : Headless (step c (rules.open_stream now))
   unfolding step
   open-headless = while-live Headless c now _ (refuse_headless c) (opens Headless (record { bare = refl }) (record { bare = refl }) (record { bare = refl }) slot-headless)
 

@@ -25,7 +25,7 @@ part s from to = take (to - from) (drop from s)
 abbrev pub call_of : List ℕ → ℕ → ℕ → Kind → Call
 call_of s now next Tick = rules.tick now
 call_of s now next (Frame head body) = rules.frame now (part s head body) (part s body next)
-call_of s now next Open = rules.open-stream now
+call_of s now next Open = rules.open_stream now
 call_of s now next (Read slot count) = rules.read now slot count
 call_of s now next (Write slot start) = rules.write now slot (part s start next)
 call_of s now next (Close slot) = rules.close now slot

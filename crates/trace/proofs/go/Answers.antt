@@ -1,0 +1,72 @@
+use mathlib.Core.Path.{refl, sym, subst, ◌∙◌}
+use mathlib.Core.Bool.{true}
+use Prim.Native.Nat.{ℕ, ◌-◌, ◌<◌}
+use Rattle.trace.proofs.Running.{Standing, standing, turned, halted-runs, spent-runs, less-left}
+use borrow.Author.Rules.{rules}
+use native.Mathlib.Omega.{arith}
+use Rattle.trace.proofs.go.Goals as goal
+
+-- ?? goal Need-same-length
+-- same_length c = c.before.before.before.before.before.before.before.before.before.before.before.before.before.before.before.before.turn.auto.1.0 ∙ c.before.before.before.before.before.before.before.before.before.before.before.before.before.before.before.before.before.before.before.before.before.before.before.before.before.loop.invariant.kept.table
+
+-- ?? goal Need-same-length-2
+-- same-length-2 c = c.before.before.before.before.before.before.before.before.before.before.before.before.before.before.before.before.turn.auto.1.1.0 ∙ c.before.before.before.before.before.before.before.before.before.before.before.before.before.before.before.before.before.before.before.before.before.before.before.before.before.loop.invariant.kept.links
+
+-- ?? goal Need-same-length-3
+-- same-length-3 c = c.before.before.before.before.before.before.before.before.before.before.before.before.before.before.before.before.turn.auto.1.1.1.0 ∙ c.before.before.before.before.before.before.before.before.before.before.before.before.before.before.before.before.before.before.before.before.before.before.before.before.before.loop.invariant.kept.pool
+
+-- ?? goal Need-same-length-4
+-- same-length-4 c = c.before.before.before.before.before.before.before.before.before.before.before.before.before.before.before.before.turn.auto.1.1.1.1.0 ∙ c.before.before.before.before.before.before.before.before.before.before.before.before.before.before.before.before.before.before.before.before.before.before.before.before.before.loop.invariant.kept.header
+
+-- ?? goal Need-same-length-5
+-- same-length-5 c = c.before.before.before.before.before.before.before.before.before.before.before.before.before.before.before.before.turn.auto.1.1.1.1.1.0 ∙ c.before.before.before.before.before.before.before.before.before.before.before.before.before.before.before.before.before.before.before.before.before.before.before.before.before.loop.invariant.kept.scratch
+
+-- ?? goal Need-same-length-6
+-- same-length-6 c = c.before.before.before.before.before.before.before.before.before.before.before.before.before.before.before.before.turn.auto.1.1.1.1.1.1.1.0 ∙ c.before.before.before.before.before.before.before.before.before.before.before.before.before.before.before.before.before.before.before.before.before.before.before.before.before.loop.invariant.size
+
+-- ?? goal Need-same-length-7
+-- same-length-7 c = c.before.before.before.loop.invariant.kept.table
+
+-- ?? goal Need-same-length-8
+-- same-length-8 c = c.before.before.before.loop.invariant.kept.links
+
+-- ?? goal Need-same-length-9
+-- same-length-9 c = c.before.before.before.loop.invariant.kept.pool
+
+-- ?? goal Need-same-length-10
+-- same-length-10 c = c.before.before.before.loop.invariant.kept.header
+
+-- ?? goal Need-same-length-11
+-- same-length-11 c = c.before.before.before.loop.invariant.kept.scratch
+
+-- ?? goal Need-same-length-12
+-- same-length-12 c = c.before.before.before.loop.invariant.size
+
+pub returns-in-Stop : goal.returns-in-Stop
+returns-in-Stop c =
+    let a = c.args in
+    let l = c.loop-here in
+    let k = c.turn-turned in
+    let told = rw c.in-Stop.is at k.ensures in
+    rw c.stopped.ensures
+    (halted-runs true a.c a.table.now a.links.now a.pool.now a.sent.now a.bytes.now a.src.now a.out.now a.place a.allowance refl
+    l.connection _ _ _ _ _ _ l.here.at l.here.applied l.here.put l.invariant _ _ _ _ _ c.loop-here-test.true told)
+
+pub loop-here-preserved : goal.loop-here-preserved
+loop-here-preserved c =
+    let a = c.args in
+    let l = c.loop-here in
+    let k = c.turn-turned in
+    let told = rw c.in-On.is at k.ensures in
+    let x = turned a.c a.table.now a.links.now a.pool.now a.src.now a.out.now a.place a.allowance
+    l.connection _ _ _ _ l.here.at l.here.applied l.here.put c.loop-here-test.true _ _ _ _ _ _ _ k.auto.out a.sent.now a.bytes.now _ _ _ _
+    (record { table = k.auto.table; links = k.auto.links; pool = k.auto.pool; header = k.auto.sent; scratch = k.auto.bytes }) l.invariant told.1 in
+    rw told.0 x
+
+pub returns : goal.returns
+returns c =
+    let a = c.args in
+    let l = c.loop-here in
+    rw c.stopped-2.ensures
+    (spent-runs true a.c a.table.now a.links.now a.pool.now a.sent.now a.bytes.now a.src.now a.out.now a.place a.allowance refl
+    l.connection _ _ _ _ _ _ l.here.at l.here.applied l.here.put l.invariant c.loop-here-test.false)

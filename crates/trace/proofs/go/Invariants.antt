@@ -1,0 +1,15 @@
+use mathlib.Core.Path.{refl, sym, subst, ◌∙◌}
+use mathlib.Core.Bool.{true}
+use Prim.Native.Nat.{ℕ, ◌-◌, ◌<◌}
+use Rattle.trace.proofs.Running.{Standing, standing, turned, halted-runs, spent-runs, less-left}
+use borrow.Author.Rules.{rules}
+use native.Mathlib.Omega.{arith}
+use Rattle.trace.proofs.go.Given as goal
+
+abbrev pub invariant-loop-here : goal.invariant-loop-here
+invariant-loop-here l =
+    Standing l.initial.connection l.initial.table l.initial.links l.initial.pool l.initial.sent l.initial.bytes l.src l.initial.out l.initial.here l.allowance l.connection l.table l.links l.pool l.sent l.bytes l.out l.here.at l.here.applied l.here.put
+
+abbrev pub decreases-loop-here : goal.decreases-loop-here
+decreases-loop-here l =
+    l.allowance - l.here.applied
