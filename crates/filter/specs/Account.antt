@@ -1,4 +1,4 @@
--- The account of a program's reads and writes. What libc::read and libc::write do to the world no contract says: the bytes that a read
+-- The account of a program's reads and writes. What std's `read` and `write_all` do to the world no contract says: the bytes that a read
 -- brought are those that it left in the buffer, and the bytes put to be written are those that were passed on.
 use Rattle.std.specs.Prelude.{◌≡◌, List, [], ◌++◌, ℕ}
 

@@ -4,6 +4,8 @@
 ghost use Rattle.std.specs.Prelude.{◌≡◌, ◌++◌, min, ◌≤◌, length, take, drop};
 ghost use Rattle.filter.specs.Parts.{kept, Inside, answered, first, after_read, after_write, Flushes, Feeds, Fills};
 
+use std::io::{Read, Write};
+
 // Where a program stands: the input that was read and not yet taken lies from `at` to `have`, and what is not yet written lies below
 // `put`; whether the input has ended; whether all is done; and the work that reads and writes did.
 #[derive(Clone, Copy)]
@@ -48,14 +50,15 @@ fn answered(got: isize, have: usize, end: usize) -> Got
 }
 
 // Reads once, after the first bytes of the buffer: nothing can be brought where they fill it.
-fn read_more(src: &mut [u8], have: usize) -> Got
+fn read_more<R: Read>(input: &mut R, src: &mut [u8], have: usize) -> Got
     ensures inside { Inside have (length src.old) result }
     ensures src_unchanged { take have src.new ≡ take have src.old }
 {
     if have < src.len() {
-        let got = libc::read(0, &mut src[have..]);
-        let n = io::count(got, &src[have..]);
-        return answered(got, have, have + n);
+        return match input.read(&mut src[have..]) {
+            Ok(n) => answered(n as isize, have, have + n),
+            Err(_) => answered(-1, have, have),
+        };
     }
     Got::Failed
 }
@@ -134,11 +137,11 @@ pub fn after_write(s: Standing, written: bool) -> Standing
 }
 
 // Moves what is left of the input to the front of the buffer, and reads more.
-pub fn feed(s: Standing, src: &mut [u8]) -> Standing
+pub fn feed<R: Read>(s: Standing, input: &mut R, src: &mut [u8]) -> Standing
     ensures { Feeds s src.old result src.new }
 {
     let front = keep_rest(src, s.at, s.have);
-    let got = read_more(src, front);
+    let got = read_more(input, src, front);
     after_read(s, front, got)
 }
 
@@ -150,21 +153,21 @@ fn least(a: usize, b: usize) -> usize
 }
 
 // Writes what was put: no more than the room holds.
-pub fn flush(s: Standing, out: &[u8]) -> Standing
+pub fn flush<W: Write>(s: Standing, output: &mut W, out: &[u8]) -> Standing
     ensures { Flushes s out.now result }
 {
     let put = least(s.put, out.len());
-    let written = io::write_all(1, &out[..put]);
+    let written = output.write_all(&out[..put]).is_ok() && output.flush().is_ok();
     after_write(s, written)
 }
 
 // Reads until `least` bytes are there, the input ends or a read fails, as one into a full buffer does.
-pub fn fill(src: &mut [u8], least: usize) -> Standing
+pub fn fill<R: Read>(input: &mut R, src: &mut [u8], least: usize) -> Standing
     ensures { Fills least (length src.old) result }
 {
     let mut s = first();
     while s.have < least {
-        let got = read_more(src, s.have);
+        let got = read_more(input, src, s.have);
         s = after_read(s, s.have, got);
         if s.ended {
             return s;
