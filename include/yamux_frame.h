@@ -1,5 +1,5 @@
-/* Yamux headers for C: the two proved functions of the crate `frame`. Link target/staticlib/libframe.a, which
- * `rt staticlib frame` writes for x86-64; it needs no other library. examples/header.c is a program that does.
+/* Yamux headers for C: the two proved functions of the crate `frame_c`. Link target/staticlib/libframe.a, which README.md's
+ * command makes for x86-64; it needs no other library. examples/header.c is a program that does.
  * docs/REFERENCE.md says what the fields mean. The rest of the engine cannot be called from C.
  *
  * Every argument is judged: no value makes a call fail in any way but by its reply. The functions keep nothing between

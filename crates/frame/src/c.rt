@@ -13,14 +13,7 @@ const UNKNOWN_TYPE: u32 = 12;
 const WRONG_SIZE: u32 = 14;
 
 // Writes a header's twelve bytes into buf, which stays as it is on a refusal.
-#[unsafe(no_mangle)]
-pub extern "C" fn yamux_encode(
-    tag: u8,
-    flags: u16,
-    stream_id: u32,
-    length: u32,
-    buf: &mut [u8],
-) -> u32
+pub fn yamux_encode(tag: u8, flags: u16, stream_id: u32, length: u32, buf: &mut [u8]) -> u32
     ensures value { result ≡ numbers_reply tag buf.old }
     ensures buf_after { buf.new ≡ numbers_written tag flags stream_id length buf.old }
 {
@@ -41,8 +34,7 @@ pub extern "C" fn yamux_encode(
 }
 
 // Hands out the numbers of the header that buf is. They stay as they are on a refusal.
-#[unsafe(no_mangle)]
-pub extern "C" fn yamux_decode(
+pub fn yamux_decode(
     buf: &[u8],
     tag: &mut u8,
     flags: &mut u16,

@@ -1,7 +1,7 @@
 // Yamux frames: the header and its codec, and the frames that are more than one header's maker.
 #![tactic(auto)]
 
-mod c;
+pub mod c;
 pub mod header;
 
 ghost use Rattle.std.specs.Prelude.{◌≡◌};
