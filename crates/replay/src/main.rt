@@ -6,10 +6,11 @@ mod room;
 ghost use Rattle.trace_play.specs.Plays.{Lent, Performs};
 
 use filter::Work;
+use std::io::{Read, Write};
 
 // Plays standard input in memory of its own. Its contract is the program's, for a `main` can have none. No contract can name a function's own
 // memory, so this says that there is such.
-fn run() -> Work
+fn run<R: Read, W: Write>(input: &mut R, output: &mut W) -> Work
     ensures { (m : Lent) × ((m' : Lent) × Performs m result m') }
 {
     let mut table = room::largest_table();
@@ -20,19 +21,19 @@ fn run() -> Work
     let mut src = room::large_buffer();
     let mut out = room::large_buffer();
     trace_play::replay(
-        &mut table, &mut links, &mut pool, &mut sent, &mut bytes, &mut src, &mut out,
+        input, output, &mut table, &mut links, &mut pool, &mut sent, &mut bytes, &mut src, &mut out,
     )
 }
 
-fn main() {
-    let work = run();
+fn main(rt: HostRuntime) {
+    let work = run(&mut rt.stdin(), &mut rt.stdout());
     match work {
         Work::Whole => {}
         Work::Unread => {
-            io::write_all(2, b"replay: cannot read standard input\n");
+            let _ = eprint!(rt; "replay: cannot read standard input\n");
         }
         Work::Unwritten => {
-            io::write_all(2, b"replay: cannot write standard output\n");
+            let _ = eprint!(rt; "replay: cannot write standard output\n");
         }
         // never: what is lent is enough
         Work::Unlent => {}

@@ -14,6 +14,7 @@ use connection::Connection;
 use connection_open::Created;
 use filter::{Standing, Work};
 use rules::Settings;
+use std::io::{Read, Write};
 use trace::{Begun, Place, Report, Stop};
 use trace_lines::Put;
 
@@ -89,13 +90,13 @@ fn passed(state: State) -> u64
 }
 
 // Writes the lines that there are, and the last line.
-fn finish(state: State, stop: Stop, out: &mut [u8]) -> State
+fn finish<W: Write>(state: State, stop: Stop, output: &mut W, out: &mut [u8]) -> State
     requires at_le_have { (state.standing.at ≤ state.standing.have) × (state.standing.put ≤ length out.old) × (100 ≤ length out.old) × (state.standing.done ≡ false) }
     requires counted { Counted state }
     ensures { Closes stop state out.old result out.new }
 {
     let standing = state.standing;
-    let flushed = filter::flush(standing, &out[..]);
+    let flushed = filter::flush(standing, output, &out[..]);
     if flushed.done {
         return State {
             standing: flushed,
@@ -107,7 +108,7 @@ fn finish(state: State, stop: Stop, out: &mut [u8]) -> State
     let byte = passed(state);
     let put = last_line(stop, left, byte, state.applied, connection.growth, out);
     let line = Standing { put, ..flushed };
-    let last = filter::flush(line, &out[..]);
+    let last = filter::flush(line, output, &out[..]);
     let closed = Standing { done: true, ..last };
     State {
         standing: closed,
@@ -116,7 +117,14 @@ fn finish(state: State, stop: Stop, out: &mut [u8]) -> State
 }
 
 // What follows a run that stopped so.
-fn go_on(state: State, stop: Stop, src: &mut [u8], out: &mut [u8]) -> State
+fn go_on<R: Read, W: Write>(
+    state: State,
+    stop: Stop,
+    input: &mut R,
+    output: &mut W,
+    src: &mut [u8],
+    out: &mut [u8],
+) -> State
     requires sound { Sound (length src.old) (length out.old) state.standing }
     requires roomy { Roomy (length src.old) (length out.old) }
     requires lacks { Lacks stop state.standing.have state.standing.at (length out.old) state.standing.put }
@@ -131,7 +139,7 @@ fn go_on(state: State, stop: Stop, src: &mut [u8], out: &mut [u8]) -> State
     let task = next_task(stop, standing.ended);
     match task {
         Task::Write => {
-            let flushed = filter::flush(standing, &out[..]);
+            let flushed = filter::flush(standing, output, &out[..]);
             State {
                 standing: flushed,
                 ..state
@@ -139,14 +147,14 @@ fn go_on(state: State, stop: Stop, src: &mut [u8], out: &mut [u8]) -> State
         }
         Task::Read => {
             let before = passed(state);
-            let fed = filter::feed(standing, src);
+            let fed = filter::feed(standing, input, src);
             State {
                 before,
                 standing: fed,
                 ..state
             }
         }
-        Task::End => finish(state, stop, out),
+        Task::End => finish(state, stop, output, out),
     }
 }
 
@@ -183,8 +191,10 @@ fn after_run(state: State, report: Report) -> State
 }
 
 // Runs over the input that is there, and then reads, writes or ends.
-fn turn(
+fn turn<R: Read, W: Write>(
     state: State,
+    input: &mut R,
+    output: &mut W,
     table: &mut [u64],
     links: &mut [u32],
     pool: &mut [u8],
@@ -222,13 +232,15 @@ fn turn(
     );
     let stop = report.stop;
     let next = after_run(state, report);
-    go_on(next, stop, src, out)
+    go_on(next, stop, input, output, src, out)
 }
 
 // Turn by turn, until all is done, and returns the work that reads and writes did. Each turn but the last leaves less to do, so this ends
 // even where the input does not.
-fn play(
+fn play<R: Read, W: Write>(
     start: State,
+    input: &mut R,
+    output: &mut W,
     table: &mut [u64],
     links: &mut [u32],
     pool: &mut [u8],
@@ -246,7 +258,9 @@ fn play(
     let mut state = start;
     let mut done = state.standing.done;
     while !done {
-        state = turn(state, table, links, pool, sent, bytes, src, out);
+        state = turn(
+            state, input, output, table, links, pool, sent, bytes, src, out,
+        );
         done = state.standing.done;
     }
     let last = state.standing;
@@ -254,19 +268,21 @@ fn play(
 }
 
 // Writes the one line of a trace without an event.
-fn only_line(stop: Stop, standing: Standing, out: &mut [u8]) -> Work
+fn only_line<W: Write>(stop: Stop, standing: Standing, output: &mut W, out: &mut [u8]) -> Work
     requires { 100 ≤ length out.old }
     ensures { Lines stop standing result out.new }
 {
     let put = last_line(stop, 0, 0, 0, 0, out);
     let line = Standing { put, ..standing };
-    let last = filter::flush(line, &out[..]);
+    let last = filter::flush(line, output, &out[..]);
     last.work
 }
 
 // Makes the connection, and plays the events after the settings.
-fn start(
+fn start<R: Read, W: Write>(
     settings: Settings,
+    input: &mut R,
+    output: &mut W,
     table: &mut [u64],
     links: &mut [u32],
     pool: &mut [u8],
@@ -291,7 +307,9 @@ fn start(
                 before: 0,
                 standing,
             };
-            play(state, table, links, pool, sent, bytes, src, out)
+            play(
+                state, input, output, table, links, pool, sent, bytes, src, out,
+            )
         }
         // Never: settings and sizes are right.
         Created::Wrong(_) => Work::Unread,
@@ -300,7 +318,9 @@ fn start(
 }
 
 // Plays standard input in memory that is enough. Returns the work that reads and writes did.
-fn perform(
+fn perform<R: Read, W: Write>(
+    input: &mut R,
+    output: &mut W,
     table: &mut [u64],
     links: &mut [u32],
     pool: &mut [u8],
@@ -312,7 +332,7 @@ fn perform(
     requires { (2700 ≤ length table.old) × (616 ≤ length links.old) × (630784 ≤ length pool.old) × (length sent.old ≡ 12) × (length bytes.old ≡ 16384) × Roomy (length src.old) (length out.old) }
     ensures { Performs (lent table.old links.old pool.old src.old out.old) result (lent table.new links.new pool.new src.new out.new) }
 {
-    let filled = filter::fill(src, SETTINGS);
+    let filled = filter::fill(input, src, SETTINGS);
     if filled.done {
         return filled.work;
     }
@@ -326,6 +346,8 @@ fn perform(
             let standing = Standing { at: next, ..filled };
             start(
                 settings,
+                input,
+                output,
                 &mut table[..a],
                 &mut links[..b],
                 &mut pool[..p],
@@ -336,12 +358,14 @@ fn perform(
                 standing,
             )
         }
-        Begun::Stop(stop) => only_line(stop, filled, out),
+        Begun::Stop(stop) => only_line(stop, filled, output, out),
     }
 }
 
 // Plays standard input in lent memory, which is judged first. Returns the work that reads and writes did.
-pub fn replay(
+pub fn replay<R: Read, W: Write>(
+    input: &mut R,
+    output: &mut W,
     table: &mut [u64],
     links: &mut [u32],
     pool: &mut [u8],
@@ -365,5 +389,5 @@ pub fn replay(
     if !right {
         return Work::Unlent;
     }
-    perform(table, links, pool, sent, bytes, src, out)
+    perform(input, output, table, links, pool, sent, bytes, src, out)
 }
