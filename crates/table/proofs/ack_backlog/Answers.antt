@@ -9,12 +9,6 @@ use Rattle.table.specs.Rows.{is_unacknowledged}
 use Rattle.table.proofs.Scans.{rest, rest_all, rest-step, rest-none}
 use Rattle.table.proofs.ack_backlog.Goals as goal
 
--- ?? goal Need-overflow-add-count
--- add-count c = omega arith
-
--- ?? goal Need-overflow-add-i
--- add-i c = omega arith
-
 pub loop-i-init : goal.loop-i-init
 loop-i-init c =
     let a = c.args in

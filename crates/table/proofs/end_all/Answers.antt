@@ -8,14 +8,6 @@ use Rattle.table.specs.Table.{ended}
 use Rattle.table.proofs.Laws.{length-ended, ended_more}
 use Rattle.table.proofs.end_all.Goals as goal
 
--- ?? goal Need-overflow-add-i
--- add-i c = omega arith
-
--- ?? goal Need-same-length
--- same_length c =
---     let a = c.before.before.before.args in
---     omega (arith, ap length c.before.loop.invariant.1, length-ended a.table.now a.k c.before.loop.i)
-
 pub loop-i-init : goal.loop-i-init
 unfolding ended
 loop-i-init c = (omega arith, refl)

@@ -7,15 +7,6 @@ use lib.ListN.{get_or, length}
 use Rattle.table.proofs.Scans.{scan-at, scan-nowhere}
 use Rattle.table.proofs.scan.Goals as goal
 
--- ?? goal Need-overflow-mul-if1
--- mul-if1 c = omega arith
-
--- ?? goal Need-overflow-cast-t12
--- cast-t12 c = omega arith
-
--- ?? goal Need-overflow-add-i
--- add-i c = omega arith
-
 pub returns-then-table-i : goal.returns-then-table-i
 returns-then-table-i c =
     let a = c.args in

@@ -9,11 +9,6 @@ use Rattle.table.specs.Table.{stored}
 use Rattle.table.proofs.Parts.{put-part}
 use Rattle.table.proofs.store.Goals as goal
 
--- ?? goal Need-same-length
--- same_length c =
---     let a = c.before.before.before.before.before.before.before.before.before.args in
---     omega (arith, length-set a.table.now a.slot.0 c.before.before.before.before.key.result)
-
 pub returns-then-e-table : goal.returns-then-e-table
 unfolding stored
 returns-then-e-table c =

@@ -6,42 +6,6 @@ use borrow.Author.Rules.{rules}
 use native.Mathlib.Omega.{arith}
 use Rattle.trace.proofs.go.Goals as goal
 
--- ?? goal Need-same-length
--- same_length c = c.before.before.before.before.before.before.before.before.before.before.before.before.before.before.before.before.turn.auto.1.0 ∙ c.before.before.before.before.before.before.before.before.before.before.before.before.before.before.before.before.before.before.before.before.before.before.before.before.before.loop.invariant.kept.table
-
--- ?? goal Need-same-length-2
--- same-length-2 c = c.before.before.before.before.before.before.before.before.before.before.before.before.before.before.before.before.turn.auto.1.1.0 ∙ c.before.before.before.before.before.before.before.before.before.before.before.before.before.before.before.before.before.before.before.before.before.before.before.before.before.loop.invariant.kept.links
-
--- ?? goal Need-same-length-3
--- same-length-3 c = c.before.before.before.before.before.before.before.before.before.before.before.before.before.before.before.before.turn.auto.1.1.1.0 ∙ c.before.before.before.before.before.before.before.before.before.before.before.before.before.before.before.before.before.before.before.before.before.before.before.before.before.loop.invariant.kept.pool
-
--- ?? goal Need-same-length-4
--- same-length-4 c = c.before.before.before.before.before.before.before.before.before.before.before.before.before.before.before.before.turn.auto.1.1.1.1.0 ∙ c.before.before.before.before.before.before.before.before.before.before.before.before.before.before.before.before.before.before.before.before.before.before.before.before.before.loop.invariant.kept.header
-
--- ?? goal Need-same-length-5
--- same-length-5 c = c.before.before.before.before.before.before.before.before.before.before.before.before.before.before.before.before.turn.auto.1.1.1.1.1.0 ∙ c.before.before.before.before.before.before.before.before.before.before.before.before.before.before.before.before.before.before.before.before.before.before.before.before.before.loop.invariant.kept.scratch
-
--- ?? goal Need-same-length-6
--- same-length-6 c = c.before.before.before.before.before.before.before.before.before.before.before.before.before.before.before.before.turn.auto.1.1.1.1.1.1.1.0 ∙ c.before.before.before.before.before.before.before.before.before.before.before.before.before.before.before.before.before.before.before.before.before.before.before.before.before.loop.invariant.size
-
--- ?? goal Need-same-length-7
--- same-length-7 c = c.before.before.before.loop.invariant.kept.table
-
--- ?? goal Need-same-length-8
--- same-length-8 c = c.before.before.before.loop.invariant.kept.links
-
--- ?? goal Need-same-length-9
--- same-length-9 c = c.before.before.before.loop.invariant.kept.pool
-
--- ?? goal Need-same-length-10
--- same-length-10 c = c.before.before.before.loop.invariant.kept.header
-
--- ?? goal Need-same-length-11
--- same-length-11 c = c.before.before.before.loop.invariant.kept.scratch
-
--- ?? goal Need-same-length-12
--- same-length-12 c = c.before.before.before.loop.invariant.size
-
 pub returns-in-Stop : goal.returns-in-Stop
 returns-in-Stop c =
     let a = c.args in

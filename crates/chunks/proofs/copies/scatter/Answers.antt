@@ -12,9 +12,6 @@ use Rattle.chunks.specs.Steps.{Scatters}
 use Rattle.chunks.proofs.Pieces.{Stands, stands_first, stands_on, scatter_first, scatter_next}
 use Rattle.chunks.proofs.copies.scatter.Goals as goal
 
--- ?? goal Need-same-length
--- same_length c = c.before.loop.invariant.1 ∙ c.before.before.before.before.fill.auto.0
-
 pub loop-done-preserved : goal.loop-done-preserved
 loop-done-preserved c =
     let a = c.args in

@@ -6,41 +6,6 @@ use borrow.Author.Rules.{rules}
 use native.Mathlib.Omega.{arith}
 use Rattle.trace.proofs.apply.apply.Goals as goal
 
--- ?? goal Need-overflow-sub-front
--- sub-front c =
---     let h = subst (Lies _) c.before.kind.given.1 c.before.before.before.before.before.before.before.before.before.requires.0 in
---     omega (arith, h.0, h.1, c.before.before.before.before.before.before.before.before.before.requires.1)
-
--- ?? goal Need-slice-bounds-front-start
--- part-front-start c =
---     let h = subst (Lies _) c.before.kind.given.1 c.before.before.before.before.before.before.before.before.before.requires.0 in
---     omega (arith, h.0, h.1, c.before.before.before.before.before.before.before.before.before.requires.1)
-
--- ?? goal Need-slice-bounds-front-end
--- part-front-end c =
---     let h = subst (Lies _) c.before.kind.given.1 c.before.before.before.before.before.before.before.before.before.requires.0 in
---     omega (arith, h.0, h.1, c.before.before.before.before.before.before.before.before.before.requires.1)
-
--- ?? goal Need-overflow-sub-rest
--- sub-rest c =
---     let h = subst (Lies _) c.before.before.kind.given.1 c.before.before.before.before.before.before.before.before.before.before.requires.0 in
---     omega (arith, h.0, h.1, c.before.before.before.before.before.before.before.before.before.before.requires.1)
-
--- ?? goal Need-slice-bounds-rest-start
--- part-rest-start c =
---     let h = subst (Lies _) c.before.before.kind.given.1 c.before.before.before.before.before.before.before.before.before.before.requires.0 in
---     omega (arith, h.0, h.1, c.before.before.before.before.before.before.before.before.before.before.requires.1)
-
--- ?? goal Need-overflow-sub-write
--- sub-write c =
---     let h = subst (Lies _) c.before.before.before.before.kind3.given.1 c.before.before.before.before.before.before.before.before.before.before.before.before.requires.0 in
---     omega (arith, h.0, h.1, c.before.before.before.before.before.before.before.before.before.before.before.before.requires.1)
-
--- ?? goal Need-slice-bounds-write-start
--- part-write-start c =
---     let h = subst (Lies _) c.before.before.before.before.kind3.given.1 c.before.before.before.before.before.before.before.before.before.before.before.before.requires.0 in
---     omega (arith, h.0, h.1, c.before.before.before.before.before.before.before.before.before.before.before.before.requires.1)
-
 pub returns-in-Tick : goal.returns-in-Tick
 returns-in-Tick c =
     let a = c.args in
@@ -66,14 +31,14 @@ returns-in-Read c =
     let k = c.read in
     let h = subst (Lies _) c.in-Read.is c.requires.0 in
     let e = rw c.slot_of-handle.ensures at k.ensures in
-    read-applies a.c a.table.now a.links.now a.pool.now a.sent.now a.src.now a.event k.result _ _ a.bytes.now _ _ _ _ c.in-Read.is h c.requires.2 e.0 e.1
+    read-applies a.c a.table.now a.links.now a.pool.now a.sent.now a.src.now a.event k.result _ _ a.bytes.now _ _ _ _ c.in-Read.is h c.requires.2 e.promised e.outputs
 
 pub returns-in-Write : goal.returns-in-Write
 returns-in-Write c =
     let a = c.args in
     let k = c.write in
     let e = rw c.slot_of-handle-in-Write.ensures at (k.ensures.by_index a.links.now a.pool.now) in
-    write-applies a.c a.table.now a.links.now a.pool.now a.sent.now a.src.now a.event k.result _ _ _ _ _ _ _ c.in-Write.is e k.ensures.gives.0.header
+    write-applies a.c a.table.now a.links.now a.pool.now a.sent.now a.src.now a.event k.result _ _ _ _ _ _ _ c.in-Write.is e k.ensures.gives.header
 
 pub returns-in-Close : goal.returns-in-Close
 returns-in-Close c =
