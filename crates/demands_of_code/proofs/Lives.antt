@@ -60,11 +60,11 @@ begins s t l p c t' l' p' m (settings.Fine k) e = go (sized k (length t) (length
 -- a history and accounts go on over any calls
 goes_on : {c : Conn} {h : ℕ → Heard} → Story c h → (ks : List Call) → Story (run c ks).after (heard_over c ks h)
 goes_on s [] = s
-goes_on s (k ∷ ks) = goes_on (story.then s k) ks
+goes_on {c = c} {h = h} s (k ∷ ks) = goes_on {c = (step c k).after} (story.then s k) ks
 
 keeps_on : {c : Conn} {b : ℕ → Account} → Books c b → (ks : List Call) → Books (run c ks).after (booked_over c ks b)
 keeps_on s [] = s
-keeps_on s (k ∷ ks) = keeps_on (books.then s k) ks
+keeps_on {c = c} {b = b} s (k ∷ ks) = keeps_on {c = (step c k).after} (books.then s k) ks
 
 -- nothing changed
 same : {c d : Connection} {t l p t' l' p' : List ℕ} {h : ℕ → Heard} {b : ℕ → Account} → d ≡ c → t' ≡ t → l' ≡ l → p' ≡ p → Holds c t l p h b → Holds d t' l' p' h b

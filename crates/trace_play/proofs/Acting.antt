@@ -22,7 +22,7 @@ use Rattle.filter.specs.declared.Standing.{Standing}
 use Rattle.filter.specs.declared.Got.{Got}
 use Rattle.filter.specs.declared.Got.TheVariants.{More, End, Failed}
 use Rattle.trace_play.specs.Places.{end_of, next_task, moved, fed_on, Counted, Sound, Roomy, Nears}
-use Rattle.trace_play.specs.Plays.{Closed, broken, last, Goes}
+use Rattle.trace_play.specs.Plays.{Closed, broken, last, putting, Goes}
 use Rattle.trace_play.specs.declared.State.{State}
 use Rattle.trace_play.specs.declared.Task.{Task}
 use Rattle.trace_play.specs.declared.Task.TheVariants as task
@@ -131,7 +131,7 @@ module _ (s : State) (why : Stop) (input room : List ℕ) (sound : Sound (length
       places (broken {a} {x} f d) = let p = written s.standing x f.written f.is in (omega (arith, sound.0, p.0, p.1), omega (arith, sound.1, p.1), omega (arith, p.2))
       places (last {a} {b} {x} {y} end f d t g) =
           let p = written s.standing x f.written f.is in
-          let q = written _ y g.written g.is in
+          let q = written (putting x end) y g.written g.is in
           (omega (arith, sound.0, p.0, p.1, q.0, q.1), omega (arith, sound.1, p.1, q.1), omega (arith, q.2))
 
       still : {b : Account} {s' : State} {room' : List ℕ} → Closed why s room b s' room' → Counted s'

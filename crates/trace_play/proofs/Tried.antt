@@ -13,7 +13,7 @@ use Rattle.filter.specs.declared.Got.TheVariants.{More, End, Failed}
 use Rattle.filter.specs.declared.Work.{Work}
 use Rattle.filter.specs.declared.Work.TheVariants.{Whole, Unread, Unwritten, Unlent}
 use Rattle.trace_play.specs.Places.{next_task}
-use Rattle.trace_play.specs.Plays.{Closed, broken, last, GoesOn, Lent, Played, Plays, none, more, Performed, unread, unreached, played}
+use Rattle.trace_play.specs.Plays.{Closed, broken, last, putting, GoesOn, Lent, Played, Plays, none, more, Performed, unread, unreached, played}
 use Rattle.trace_play.specs.declared.State.{State}
 use Rattle.trace_play.specs.declared.Task.{Task}
 use Rattle.trace_play.specs.declared.Task.TheVariants as task
@@ -37,8 +37,8 @@ read x y front End e h = ap (λ (v : Standing). tried v.work) e ∙ h
 read x y front Failed e h = ap (λ (v : Standing). tried v.work) e
 
 closed : {why : Stop} {s : State} {room : List ℕ} {b : Account} {s' : State} {room' : List ℕ} → Closed why s room b s' room' → Tried s.standing → Tried s'.standing
-closed (broken f d) h = wrote _ _ f.written f.is h
-closed (last end f d t g) h = wrote _ _ g.written g.is (wrote _ _ f.written f.is h)
+closed {s = s} (broken {x = x} f d) h = wrote s.standing x f.written f.is h
+closed {s = s} (last {x = x} {y = y} end f d t g) h = wrote (putting x end) y g.written g.is (wrote s.standing x f.written f.is h)
 
 goes : (a : Task) (why : Stop) (s : State) (input room : List ℕ) (b : Account) (s' : State) (input' room' : List ℕ) → GoesOn a why s input room b s' input' room' → Tried s.standing → Tried s'.standing
 goes task.Write why s input room b s' input' room' g h = wrote _ _ g.0.flushed.written g.0.flushed.is h

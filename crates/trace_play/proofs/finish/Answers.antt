@@ -1,0 +1,15 @@
+use borrow.Author.Rules.{rules}
+use Rattle.trace_play.specs.Plays.{broken, last}
+use Rattle.trace_play.proofs.finish.Goals as goal
+
+pub returns-then-flushed : goal.returns-then-flushed
+returns-then-flushed g c =
+    let f = c.flush-flushed.ensures in
+    (f.0, broken f.1 c.if-flushed.true)
+
+pub returns : goal.returns
+returns g c =
+    let f = c.flush-flushed.ensures in
+    let k = c.last_line-put in
+    let x = c.flush-last.ensures in
+    (_, last k.result f.1 c.if-flushed.false (rw c.passed-byte.ensures at k.ensures.out_after) x.1)

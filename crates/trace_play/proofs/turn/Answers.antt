@@ -1,0 +1,21 @@
+use mathlib.Core.Path.{sym}
+use native.Mathlib.Omega.{arith}
+use lib.Seq.{length-take-le}
+use Rattle.trace_play.proofs.Turning.{after-sound, after-counted, after-lacks, turned}
+use borrow.Author.Rules.{rules}
+use Rattle.trace_play.proofs.turn.Goals as goal
+
+-- the clauses by their names
+all : {A B C D E : Type 0} → A × (B × (C × (D × E))) → record { sound_2 : A; nears : B; counted_2 : C; valid_2 : D; turns : E; }
+all x = record { sound_2 = x.0; nears = x.1.0; counted_2 = x.1.1.0; valid_2 = x.1.1.1.0; turns = x.1.1.1.1; }
+
+pub returns : goal.returns
+returns g c =
+    let a = c.args in
+    let p = c.requires in
+    let k = c.run-report in
+    let r = rw c.place_of-place.ensures at k.ensures.runs in
+    let size = k.auto.out in
+    let o = c.go_on in
+    let e = rw c.after_run-next.ensures at o.ensures in
+    all (turned a.state a.table.now a.links.now a.pool.now a.sent.now a.bytes.now a.src.now a.out.now p.sound p.valid.0 p.valid.1 p.valid.2 p.done_value p.counted k.result _ _ _ _ size r o.result _ _ e.sound_2 e.nears e.counted_2 e.goes)
