@@ -136,7 +136,7 @@ module _ (s : State) (why : Stop) (input room : List ℕ) (sound : Sound (length
 
       still : {b : Account} {s' : State} {room' : List ℕ} → Closed why s room b s' room' → Counted s'
       still (broken {a} {x} f d) = (omega (arith, counted.0, (written s.standing x f.written f.is).0), counted.1)
-      still (last {a} {b} {x} {y} end f d t g) = (omega (arith, counted.0, (written s.standing x f.written f.is).0, (written _ y g.written g.is).0), counted.1)
+      still (last {a} {b} {x} {y} end f d t g) = (omega (arith, counted.0, (written s.standing x f.written f.is).0, (written (putting x end) y g.written g.is).0), counted.1)
 
       over : {b : Account} {s' : State} {room' : List ℕ} → Closed why s room b s' room' → s'.standing.done ≡ false → {A : Type 0} → A
       over (broken {a} {x} f d) h = never (sym d ∙ h)

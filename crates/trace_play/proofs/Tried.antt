@@ -6,7 +6,7 @@ use Prim.Native.Nat.{ℕ}
 use Rattle.rules.proofs.Lists.{never}
 use Rattle.trace.specs.declared.Stop.{Stop}
 use Rattle.filter.specs.Account.{Account}
-use Rattle.filter.specs.Parts.{after_read, after_write}
+use Rattle.filter.specs.Parts.{after_read, after_write, holding}
 use Rattle.filter.specs.declared.Standing.{Standing}
 use Rattle.filter.specs.declared.Got.{Got}
 use Rattle.filter.specs.declared.Got.TheVariants.{More, End, Failed}
@@ -41,8 +41,8 @@ closed {s = s} (broken {x = x} f d) h = wrote s.standing x f.written f.is h
 closed {s = s} (last {x = x} {y = y} end f d t g) h = wrote (putting x end) y g.written g.is (wrote s.standing x f.written f.is h)
 
 goes : (a : Task) (why : Stop) (s : State) (input room : List ℕ) (b : Account) (s' : State) (input' room' : List ℕ) → GoesOn a why s input room b s' input' room' → Tried s.standing → Tried s'.standing
-goes task.Write why s input room b s' input' room' g h = wrote _ _ g.0.flushed.written g.0.flushed.is h
-goes task.Read why s input room b s' input' room' g h = read _ _ _ g.0.fed.got g.0.fed.is h
+goes task.Write why s input room b s' input' room' g h = wrote s.standing _ g.0.flushed.written g.0.flushed.is h
+goes task.Read why s input room b s' input' room' g h = read s.standing _ _ g.0.fed.got g.0.fed.is h
 goes task.End why s input room b s' input' room' g h = closed g.0 h
 
 turned : {s : State} {m : Lent} {b : Account} {s' : State} {m' : Lent} → Played s m b s' m' → Tried s.standing → Tried s'.standing
@@ -57,5 +57,5 @@ never_unlent p e = never (sym (told p) ∙ ap tried e)
   where
     told : {m : Lent} {b : Account} {m' : Lent} {r : Work} → Performed m b r m' → tried r ≡ true
     told (unread have input) = refl
-    told (unreached have ended input why r n h f o) = ap tried o.work ∙ wrote _ _ o.flushed.written o.flushed.is refl
+    told (unreached have ended input why r n h f o) = ap tried o.work ∙ wrote (putting (holding have ended) o.end) o.to o.flushed.written o.flushed.is refl
     told (played have ended input t z next r n h f q) = ap tried q.ended.work ∙ plays q.ended.plays refl

@@ -21,7 +21,7 @@ invariant-loop-done g l =
     × (length l.sent ≡ 12)
     × (length l.bytes ≡ 16384)
     × (l.done ≡ l.state.standing.done)
-    × Chain l.start (lent l.initial.table l.initial.links l.initial.pool l.initial.src l.initial.out) l.state (lent l.table l.links l.pool l.src l.out)
+    × Chain l.initial.state (lent l.initial.table l.initial.links l.initial.pool l.initial.src l.initial.out) l.state (lent l.table l.links l.pool l.src l.out)
     × Counted l.state
 
 abbrev pub decreases-loop-done : goal.decreases-loop-done

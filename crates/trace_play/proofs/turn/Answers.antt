@@ -6,8 +6,8 @@ use borrow.Author.Rules.{rules}
 use Rattle.trace_play.proofs.turn.Goals as goal
 
 -- the clauses by their names
-all : {A B C D E : Type 0} → A × (B × (C × (D × E))) → record { sound_2 : A; nears : B; counted_2 : C; valid_2 : D; turns : E; }
-all x = record { sound_2 = x.0; nears = x.1.0; counted_2 = x.1.1.0; valid_2 = x.1.1.1.0; turns = x.1.1.1.1; }
+all : {A B C D E : Type 0} → A × (B × (C × (D × E))) → record { sound_2 : A; nears : B; counted_2 : C; valid_2 : D; turns : E }
+all x = record { sound_2 = x.0; nears = x.1.0; counted_2 = x.1.1.0; valid_2 = x.1.1.1.0; turns = x.1.1.1.1 }
 
 pub returns : goal.returns
 returns g c =

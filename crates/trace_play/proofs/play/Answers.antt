@@ -1,0 +1,26 @@
+use mathlib.Core.Path.{◌≡◌, refl, sym, ◌∙◌}
+use native.Mathlib.Omega.{arith}
+use borrow.Author.Rules.{rules}
+use Rattle.filter.specs.Account.{nothing}
+use Rattle.trace_play.specs.Plays.{none, more}
+use Rattle.trace_play.proofs.play.Goals as goal
+
+pub loop-done-init : goal.loop-done-init
+loop-done-init g c =
+    let p = c.requires in
+    (p.sound, p.roomy, p.valid.0, p.valid.1, p.valid.2, refl, (nothing, none), p.counted)
+
+pub loop-done-preserved : goal.loop-done-preserved
+loop-done-preserved g c =
+    let k = c.turn-state in
+    let v = c.loop-done.invariant in
+    let e = k.ensures in (
+      (e.sound_2.0, omega (arith, e.sound_2.1, k.auto.src), omega (arith, e.sound_2.2, k.auto.out)),
+      (omega (arith, v.1.0, k.auto.src), omega (arith, v.1.1, k.auto.out)),
+      e.valid_2,
+      k.auto.sent ∙ v.3,
+      k.auto.bytes ∙ v.4,
+      refl,
+      (_, more v.6.1 e.turns.1),
+      e.counted_2,
+    )
