@@ -7,6 +7,7 @@ ghost use Rattle.trace_play.specs.Plays.{Lent, Performs};
 
 use filter::Work;
 use std::io::{Read, Write};
+use std::process::ExitCode;
 
 // Plays standard input in memory of its own. Its contract is the program's, for a `main` can have none. No contract can name a function's own
 // memory, so this says that there is such.
@@ -25,17 +26,19 @@ fn run<R: Read, W: Write>(input: &mut R, output: &mut W) -> Work
     )
 }
 
-fn main(rt: HostRuntime) {
+fn main(rt: HostRuntime) -> ExitCode {
     let work = run(&mut rt.stdin(), &mut rt.stdout());
     match work {
-        Work::Whole => {}
+        Work::Whole => ExitCode::SUCCESS,
         Work::Unread => {
             let _ = eprint!(rt; "replay: cannot read standard input\n");
+            ExitCode::FAILURE
         }
         Work::Unwritten => {
             let _ = eprint!(rt; "replay: cannot write standard output\n");
+            ExitCode::FAILURE
         }
         // never: what is lent is enough
-        Work::Unlent => {}
+        Work::Unlent => ExitCode::SUCCESS,
     }
 }
