@@ -4,7 +4,6 @@ use mathlib.Core.Bool.{true, false}
 use mathlib.Core.List.{List, map}
 use Prim.Native.Nat.{ℕ}
 use lib.ListN.{get_or-map}
-use Rattle.rules.specs.Replies.{leaves_all}
 use Rattle.rules.specs.State.{Entry, entry, vacant}
 use Rattle.rules.specs.Ending.{end, end_entry}
 use Rattle.rules.specs.declared.Mode.{Mode}

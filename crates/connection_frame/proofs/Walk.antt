@@ -1,6 +1,6 @@
 -- Which actions a frame's handler can give: a property of each kind is a property of the handler's. Assumes nothing.
 use mathlib.Core.Path.{◌≡◌, refl}
-use mathlib.Core.Bool.{Bool, true, false, cond}
+use mathlib.Core.Bool.{Bool, true, false}
 use Prim.Native.Nat.{ℕ, ◌+◌}
 use lib.Dec.{eqb, ltb, leb}
 use Rattle.frame.specs.Header.{contains, syn, fin, rst, initial_window}

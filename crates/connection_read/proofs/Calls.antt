@@ -1,11 +1,10 @@
 -- How a read comes to its promise: by a refusal, with nothing to read, or by its rule. Assumes nothing.
-use mathlib.Core.Path.{◌≡◌, refl, ap, ◌∙◌}
+use mathlib.Core.Path.{◌≡◌, refl}
 use mathlib.Core.Bool.{Bool, true}
 use mathlib.Core.List.{List, [], ◌∷◌}
 use Prim.Native.Nat.{ℕ}
 use native.Mathlib.Omega.{arith}
 use lib.ListN.{length}
-use Rattle.rules.specs.Replies.{count_of}
 use Rattle.rules.specs.State.{Conn}
 use Rattle.rules.specs.Ending.{Result}
 use Rattle.rules.specs.Step.{step, read}

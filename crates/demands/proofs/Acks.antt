@@ -13,7 +13,7 @@ use Rattle.frame.specs.declared.header.StreamId.{StreamId}
 use Rattle.stream.specs.Streams.{acknowledged}
 use Rattle.stream.specs.declared.Stream.{Stream}
 use Rattle.rules.specs.Lists.{Place, at, nowhere}
-use Rattle.rules.specs.State.{Entry, Conn, vacant, entry, one, has_id, listed_count, unread_total, room, with_stream, with_slot, with_open_wait}
+use Rattle.rules.specs.State.{Entry, Conn, vacant, entry, one, has_id, listed_count, unread_total, with_stream, with_slot, with_open_wait}
 use Rattle.rules.specs.Frames.{Acked, is_known, ack_step, acknowledge_at}
 use Rattle.rules.proofs.Lists.{Says, sum-set, both}
 use Rattle.demands.specs.Demands.{held_count}

@@ -16,7 +16,7 @@ use Rattle.rtt.specs.declared.NextPing.TheVariants as ask
 use Rattle.rules.specs.declared.Reply.TheVariants as reply
 use Rattle.rules.specs.Lists.{sum}
 use Rattle.rules.specs.Settings.{last_time}
-use Rattle.rules.specs.State.{Entry, Conn, vacant, entry, one, unread_total}
+use Rattle.rules.specs.State.{Entry, Conn, vacant, entry, unread_total}
 use Rattle.rules.specs.Ending.{Result, refuse}
 use Rattle.rules.specs.Frames.{ack_step, on_reset, make_at, make, syn_rules, syn_data, syn_update, data_rules, update_rules, pong_rules, ping_rules, frame_rules, on_header}
 use Rattle.rules.specs.Calls.{growth_of, read_rest, read_with, window_step, read_rules, write_with, write_rules, ping_out, tick_rules}

@@ -11,7 +11,7 @@ use Rattle.chunks.specs.Many as many
 use Rattle.chunks.specs.Store.{size, content}
 use Rattle.chunks.specs.declared.Queue.{Queue}
 use Rattle.rules.specs.State.{Entry, entry}
-use Rattle.table.specs.Table.{row_at, view, nth}
+use Rattle.table.specs.Table.{row_at, view}
 use Rattle.table.specs.declared.row.Row.{Row}
 use Rattle.table.proofs.Laws.{length-view, nth-view}
 use Rattle.memory.specs.Moves.{start_of, Advances}

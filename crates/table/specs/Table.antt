@@ -2,7 +2,7 @@
 use Rattle.std.specs.Prelude.{true, cond, List, [], ◌∷◌, ◌≡◌, ℕ, zero, suc, ◌+◌, ◌*◌, ◌/◌, ◌%◌, ◌<◌, ltb, leb, eqb, length, get_or, take, drop, set, replicate}
 use Rattle.frame.specs.declared.header.StreamId.{StreamId}
 use Rattle.chunks.specs.Blocks.{put}
-use Rattle.rules.specs.Lists.{Place, at, nowhere, first, sum}
+use Rattle.rules.specs.Lists.{first, sum}
 use Rattle.rules.specs.State.{one, found_of}
 use Rattle.rules.specs.declared.Mode.{Mode}
 use Rattle.table.specs.Rows.{low, row_of, key_of, cells_of, blank, is_unacknowledged, end_row}

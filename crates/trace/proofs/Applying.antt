@@ -9,7 +9,6 @@ use lib.Dec.{ltb}
 use lib.ListN.{length, take, drop, length-drop}
 use lib.Seq.{length-take-le, take-append_seam}
 use borrow.Author.Tests.{eq-eqb, ltb-true}
-use Rattle.rules.specs.Replies.{count_of}
 use Rattle.rules.specs.State.{Conn, entry, vacant}
 use Rattle.rules.specs.Ending.{Result, refuse}
 use Rattle.rules.specs.Step.{Call, step, timed, holding}

@@ -17,7 +17,7 @@ use Rattle.rules.specs.declared.Settings.{Settings}
 use Rattle.rules.specs.declared.Checked.{Checked}
 use Rattle.rules.specs.declared.Checked.TheVariants as settings
 use Rattle.connection.specs.Abstract.{abs_of, Valid}
-use Rattle.trace.specs.Runs.{Traced, only, runs}
+use Rattle.trace.specs.Runs.{Traced, only}
 use Rattle.trace.specs.Output.{most, judged_as, begun_as, last_line, allowance, output, remaining, IsLast}
 use Rattle.trace.specs.Turns.{Runs, RanAs, runs_from}
 use Rattle.trace.specs.declared.Stop.{Stop}

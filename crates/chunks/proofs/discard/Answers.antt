@@ -1,10 +1,9 @@
-use borrow.Author.Rules.{rules}
 use mathlib.Core.Path.{◌≡◌, ap, ◌∙◌}
 use Prim.Native.Nat.{◌-◌}
 use native.Mathlib.Omega.{arith}
 use Rattle.chunks.specs.Blocks.{hold}
 use Rattle.chunks.specs.Store.{size}
-use Rattle.chunks.proofs.Moves.{return_none, return_all}
+use Rattle.chunks.proofs.Moves.{return_all}
 use Rattle.chunks.proofs.discard.Goals as goal
 
 pub returns : goal.returns

@@ -1,4 +1,3 @@
-use borrow.Author.Rules.{rules}
 use Prim.Native.Nat.{ℕ, ◌+◌, ◌-◌, ◌/◌, ◌%◌, ◌≤◌}
 use mathlib.Core.Path.{◌≡◌, refl, sym, ap, subst, ◌∙◌}
 use mathlib.Core.List.{List}
@@ -7,7 +6,6 @@ use lib.ListN.{length, drop, length-take, drop_of_length-le}
 use Rattle.chunks.specs.Blocks.{BLOCK, hold, bytes}
 use Rattle.chunks.specs.Store.{state, Kept, content, nodes, size}
 use Rattle.chunks.specs.declared.Queue.{Queue}
-use Rattle.chunks.proofs.Parts.{sub_add}
 use Rattle.chunks.proofs.Moves.{pass_in, pass_over}
 use Rattle.chunks.proofs.pass.Goals as goal
 
@@ -33,9 +31,9 @@ returns-then-k-eq0-clause-passes c =
     let a = c.args in
     let n : a.n ≤ a.q.unread = c.requires in
     let h : (a.q.from + a.n) / BLOCK ≡ 0 = c.if-k-eq0.true in
-      λ p g.
-          let r = pass_in a.links.now p a.f.head a.f.count a.q.head a.q.tail (size a.q) a.q.from a.q.unread (hold ((a.q.from + a.n) % BLOCK + (a.q.unread - a.n))) a.n ((a.q.from + a.n) % BLOCK) (omega arith) (omega arith) (omega arith) g in
-          (r.0, r.1, λ some. refl)
+    λ p g.
+    let r = pass_in a.links.now p a.f.head a.f.count a.q.head a.q.tail (size a.q) a.q.from a.q.unread (hold ((a.q.from + a.n) % BLOCK + (a.q.unread - a.n))) a.n ((a.q.from + a.n) % BLOCK) (omega arith) (omega arith) (omega arith) g in
+    (r.0, r.1, λ some. refl)
 
 pub returns-clause-passes : goal.returns-clause-passes
 returns-clause-passes c =
@@ -44,6 +42,6 @@ returns-clause-passes c =
     let u : a.q.unread - a.n ≡ 0 → ⊥ = c.if-unread-eq0.false in
     let x = a.q.from + a.n in
     let h : x / BLOCK ≡ 0 → ⊥ = c.if-k-eq0.false in
-      λ p g.
-          let r = pass_over a.links.now c.join.new.links p a.f.head a.f.count a.q.head a.q.tail (size a.q) a.q.from a.q.unread (hold (x % BLOCK + (a.q.unread - a.n))) c.low32-count.result a.n (x / BLOCK - 1) (x % BLOCK) c.hop-last.result c.link-head.result c.hop-last.ensures c.link-head.ensures c.join.ensures (omega arith) (omega (arith, c.low32-count.ensures, g.fits)) (omega arith) (omega arith) g in
-          (r.0, r.1, λ some. refl)
+    λ p g.
+    let r = pass_over a.links.now c.join.new.links p a.f.head a.f.count a.q.head a.q.tail (size a.q) a.q.from a.q.unread (hold (x % BLOCK + (a.q.unread - a.n))) c.low32-count.result a.n (x / BLOCK - 1) (x % BLOCK) c.hop-last.result c.link-head.result c.hop-last.ensures c.link-head.ensures c.join.ensures (omega arith) (omega (arith, c.low32-count.ensures, g.fits)) (omega arith) (omega arith) g in
+    (r.0, r.1, λ some. refl)

@@ -1,9 +1,5 @@
-use borrow.Author.Rules.{rules}
-use Prim.Native.Nat.{◌%◌, ◌≤◌}
-use mathlib.Core.Path.{refl, sym}
-use native.Mathlib.Omega.{arith}
-use lib.ListN.{length}
-use lib.Seq.{length-take-le}
+use Prim.Native.Nat.{◌%◌}
+use mathlib.Core.Path.{refl}
 use Rattle.chunks.specs.Blocks.{BLOCK}
 use Rattle.chunks.proofs.Turns.{drawn}
 use Rattle.chunks.proofs.pop.Goals as goal

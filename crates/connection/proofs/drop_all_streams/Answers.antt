@@ -1,4 +1,3 @@
-use borrow.Author.Rules.{rules}
 use Rattle.connection.proofs.Ending.{end-handles}
 use Rattle.connection.proofs.drop_all_streams.Goals as goal
 

@@ -1,5 +1,4 @@
 use mathlib.Core.Path.{refl, sym, ◌∙◌}
-use borrow.Author.Rules.{rules}
 use Rattle.rules.specs.Step.{drop, step}
 use Rattle.connection.proofs.Promises.{refused-gives}
 use Rattle.connection.proofs.Tests.{handle-shut}

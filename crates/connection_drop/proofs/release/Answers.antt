@@ -1,4 +1,3 @@
-use borrow.Author.Rules.{rules}
 use Rattle.connection_drop.proofs.Dropping.{release-handles}
 use Rattle.connection_drop.proofs.release.Goals as goal
 

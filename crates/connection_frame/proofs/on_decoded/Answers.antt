@@ -1,4 +1,3 @@
-use borrow.Author.Rules.{rules}
 use mathlib.Core.Path.{refl}
 use Rattle.rules.specs.declared.Reply.TheVariants as reply
 use Rattle.connection.proofs.Promises.{refused-handles}

@@ -1,4 +1,3 @@
-use borrow.Author.Rules.{rules}
 use Rattle.connection_frame.proofs.Orders.{ping_handles}
 use Rattle.connection_frame.proofs.on_ping.Goals as goal
 

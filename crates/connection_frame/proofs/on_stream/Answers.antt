@@ -1,4 +1,3 @@
-use borrow.Author.Rules.{rules}
 use Rattle.connection_frame.proofs.Arrives.{stream-handled}
 use Rattle.connection_frame.proofs.on_stream.Goals as goal
 

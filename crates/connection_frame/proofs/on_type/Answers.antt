@@ -1,8 +1,6 @@
-use borrow.Author.Rules.{rules}
-use mathlib.Core.Path.{refl, ap}
+use mathlib.Core.Path.{refl}
 use Rattle.frame.specs.declared.header.Tag.TheVariants as tag
 use Rattle.rules.specs.Frames.{frame_rules}
-use Rattle.handlers.specs.Perform.{of_stream}
 use Rattle.connection_frame.proofs.Orders.{as-type}
 use Rattle.connection_frame.proofs.on_type.Goals as goal
 

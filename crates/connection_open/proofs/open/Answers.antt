@@ -1,5 +1,4 @@
 use mathlib.Core.Path.{sym, ◌∙◌, subst}
-use borrow.Author.Rules.{rules}
 use Rattle.handlers.specs.declared.Opening.{Opening}
 use Rattle.connection_open.specs.Open.{Acts}
 use Rattle.connection_open.proofs.Opening.{shut, entered}

@@ -1,5 +1,4 @@
 use mathlib.Core.Path.{sym, ◌∙◌}
-use borrow.Author.Rules.{rules}
 use Rattle.connection_read.proofs.Calls.{refused-call, held-call}
 use Rattle.connection_read.proofs.read.Goals as goal
 

@@ -1,6 +1,3 @@
-use mathlib.Core.Path.{sym}
-use borrow.Author.Rules.{rules}
-use lib.Seq.{length-take-le}
 use Rattle.connection_read.proofs.Draws.{take-reads}
 use Rattle.connection_read.proofs.take.Goals as goal
 

@@ -1,6 +1,5 @@
 use mathlib.Core.Path.{refl, sym, ◌∙◌}
 use mathlib.Core.List.{[]}
-use borrow.Author.Rules.{rules}
 use Rattle.stream.proofs.Laws.{close_same}
 use Rattle.rules.specs.Step.{close, step}
 use Rattle.connection.proofs.Promises.{refused-gives}

@@ -1,5 +1,4 @@
 use mathlib.Core.Path.{sym, ◌∙◌}
-use borrow.Author.Rules.{rules}
 use Rattle.handlers.specs.Locals.{perform_step}
 use Rattle.rules.proofs.Lists.{never}
 use Rattle.connection.proofs.Promises.{acted}

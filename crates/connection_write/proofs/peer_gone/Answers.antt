@@ -1,5 +1,4 @@
 use mathlib.Core.Path.{refl, sym, ◌∙◌}
-use borrow.Author.Rules.{rules}
 use Rattle.rules.specs.Ending.{end}
 use Rattle.rules.specs.Step.{gone, step}
 use Rattle.rules.specs.declared.Reply.TheVariants as reply

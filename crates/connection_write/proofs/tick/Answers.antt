@@ -1,6 +1,5 @@
 use mathlib.Core.Path.{refl, sym, ◌∙◌}
 use mathlib.Core.List.{[]}
-use borrow.Author.Rules.{rules}
 use Rattle.rules.specs.Calls.{tick_rules}
 use Rattle.rules.specs.Step.{tick, step}
 use Rattle.connection.specs.Abstract.{abs_of}

@@ -1,6 +1,5 @@
 use mathlib.Core.Path.{refl, sym, ◌∙◌}
 use lib.ListN.{length}
-use borrow.Author.Rules.{rules}
 use Rattle.rules.specs.Step.{write, step}
 use Rattle.rules.specs.declared.Reply.TheVariants as reply
 use Rattle.handlers.specs.Locals.{body_of}

@@ -1,4 +1,3 @@
-use borrow.Author.Rules.{rules}
 use Rattle.handlers.specs.Actions.{on_reset}
 use Rattle.handlers.proofs.on_reset.Goals as goal
 

@@ -1,4 +1,3 @@
-use borrow.Author.Rules.{rules}
 use mathlib.Core.Path.{sym, ◌∙◌}
 use Rattle.handlers.specs.Actions.{stream_action}
 use Rattle.handlers.proofs.on_stream.Goals as goal

@@ -1,4 +1,3 @@
-use borrow.Author.Rules.{rules}
 use mathlib.Core.Path.{sym, ◌∙◌}
 use Rattle.handlers.specs.Actions.{receive}
 use Rattle.handlers.proofs.receive.Goals as goal

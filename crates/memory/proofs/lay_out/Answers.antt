@@ -1,4 +1,3 @@
-use borrow.Author.Rules.{rules}
 use lib.ListN.{length}
 use Rattle.memory.proofs.Ends.{start-moves}
 use Rattle.memory.proofs.lay_out.Goals as goal

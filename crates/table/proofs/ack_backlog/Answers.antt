@@ -1,12 +1,9 @@
 use mathlib.Core.Path.{◌≡◌}
-use Prim.Native.Nat.{◌+◌, ◌-◌, ◌≤◌}
 use native.Mathlib.Nat.{le_antisymm}
 use native.Mathlib.Omega.{arith}
-use borrow.Author.Rules.{rules}
 use Rattle.rules.specs.State.{one}
-use Rattle.table.specs.Table.{unacknowledged}
 use Rattle.table.specs.Rows.{is_unacknowledged}
-use Rattle.table.proofs.Scans.{rest, rest_all, rest-step, rest-none}
+use Rattle.table.proofs.Scans.{rest_all, rest-step, rest-none}
 use Rattle.table.proofs.ack_backlog.Goals as goal
 
 pub loop-i-init : goal.loop-i-init

@@ -1,11 +1,7 @@
-use mathlib.Core.Path.{◌≡◌, refl, sym, ap, ◌∙◌}
-use Prim.Native.Nat.{◌-◌, ◌≤◌}
-use native.Mathlib.Nat.{le_antisymm}
+use mathlib.Core.Path.{refl, sym, ◌∙◌}
 use native.Mathlib.Omega.{arith}
-use borrow.Author.Rules.{rules}
-use lib.ListN.{length}
 use Rattle.table.specs.Table.{ended}
-use Rattle.table.proofs.Laws.{length-ended, ended_more}
+use Rattle.table.proofs.Laws.{ended_more}
 use Rattle.table.proofs.end_all.Goals as goal
 
 pub loop-i-init : goal.loop-i-init

@@ -1,11 +1,6 @@
-use mathlib.Core.Path.{◌≡◌, refl, sym, ap, ◌∙◌}
+use mathlib.Core.Path.{◌≡◌}
 use Prim.Native.Nat.{◌-◌, ◌≤◌}
-use native.Mathlib.Nat.{le_antisymm}
-use native.Mathlib.Omega.{arith}
-use borrow.Author.Rules.{rules}
-use lib.ListN.{length}
 use Rattle.table.specs.Table.{ended}
-use Rattle.table.proofs.Laws.{length-ended, ended_more}
 use Rattle.table.proofs.end_all.Given as goal
 
 abbrev pub invariant-loop-i : goal.invariant-loop-i

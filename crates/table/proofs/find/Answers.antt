@@ -1,4 +1,3 @@
-use borrow.Author.Rules.{rules}
 use Rattle.table.proofs.Scans.{scan-finds}
 use Rattle.table.proofs.find.Goals as goal
 

@@ -1,10 +1,6 @@
-use mathlib.Core.Path.{◌≡◌, refl, sym, ◌∙◌}
+use mathlib.Core.Path.{◌≡◌}
 use Prim.Native.Nat.{ℕ, ◌-◌, ◌≤◌, ◌<◌}
-use native.Mathlib.Omega.{arith}
-use borrow.Author.Count.{below_more}
-use borrow.Author.Rules.{rules}
-use lib.Seq.{ext_get_or, get_or-set_same, get_or-set_other}
-use lib.ListN.{get_or, set, replicate, length-replicate, get_or-replicate, length, length-set}
+use lib.ListN.{get_or, length}
 use Rattle.table.proofs.init.Given as goal
 
 abbrev pub invariant-loop-i : goal.invariant-loop-i

@@ -2,7 +2,6 @@ use mathlib.Core.Path.{sym}
 use Prim.Native.Nat.{◌≤◌}
 use native.Mathlib.Omega.{arith}
 use borrow.Author.Tests.{lt-ltb, le-ltb}
-use borrow.Author.Rules.{rules}
 use lib.Seq.{set_out}
 use lib.ListN.{length}
 use Rattle.table.specs.Table.{hint_place, inserted}

@@ -2,7 +2,6 @@ use mathlib.Core.Path.{◌≡◌, ap, ◌∙◌}
 use Prim.Native.Nat.{ℕ, ◌+◌, ◌-◌}
 use native.Mathlib.Omega.{arith}
 use borrow.Author.Tests.{le-leb, lt-leb}
-use borrow.Author.Rules.{rules}
 use lib.ListN.{get_or, take, drop}
 use Rattle.table.specs.Rows.{row_of}
 use Rattle.table.specs.Table.{row_at}

@@ -2,8 +2,7 @@ use mathlib.Core.Path.{◌≡◌}
 use Prim.Native.Nat.{◌+◌, ◌-◌}
 use native.Mathlib.Omega.{arith}
 use borrow.Author.Tests.{le-leb, lt-leb}
-use borrow.Author.Rules.{rules}
-use lib.ListN.{set, length-set}
+use lib.ListN.{set}
 use Rattle.table.specs.Rows.{cells_of}
 use Rattle.table.specs.Table.{stored}
 use Rattle.table.proofs.Parts.{put-part}

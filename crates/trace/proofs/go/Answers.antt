@@ -1,9 +1,6 @@
-use mathlib.Core.Path.{refl, sym, subst, ◌∙◌}
+use mathlib.Core.Path.{refl}
 use mathlib.Core.Bool.{true}
-use Prim.Native.Nat.{ℕ, ◌-◌, ◌<◌}
-use Rattle.trace.proofs.Running.{Standing, standing, turned, halted-runs, spent-runs, less-left}
-use borrow.Author.Rules.{rules}
-use native.Mathlib.Omega.{arith}
+use Rattle.trace.proofs.Running.{turned, halted-runs, spent-runs}
 use Rattle.trace.proofs.go.Goals as goal
 
 pub returns-in-Stop : goal.returns-in-Stop

@@ -1,9 +1,5 @@
-use mathlib.Core.Path.{refl, sym, subst, ◌∙◌}
-use mathlib.Core.Bool.{true}
-use Prim.Native.Nat.{ℕ, ◌-◌, ◌<◌}
-use Rattle.trace.proofs.Running.{Standing, standing, turned, halted-runs, spent-runs, less-left}
-use borrow.Author.Rules.{rules}
-use native.Mathlib.Omega.{arith}
+use Prim.Native.Nat.{◌-◌}
+use Rattle.trace.proofs.Running.{Standing}
 use Rattle.trace.proofs.go.Given as goal
 
 abbrev pub invariant-loop-here : goal.invariant-loop-here

@@ -1,8 +1,4 @@
-use mathlib.Core.Path.{sym}
-use borrow.Author.Rules.{rules}
-use native.Mathlib.Omega.{arith}
-use lib.Seq.{length-take-le}
-use Rattle.trace.proofs.Showing.{shows, never-full}
+use Rattle.trace.proofs.Showing.{shows}
 use Rattle.trace.proofs.show.Goals as goal
 
 pub returns-in-At-clause-stores : goal.returns-in-At-clause-stores

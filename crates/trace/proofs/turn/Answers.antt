@@ -1,8 +1,6 @@
 use mathlib.Core.Path.{refl, sym, ◌∙◌}
 use Prim.Native.Nat.{◌+◌}
 use Rattle.trace.proofs.Turning.{short-halts, bad-halts, short-lacks, lies, full-halts, goes}
-use borrow.Author.Rules.{rules}
-use native.Mathlib.Omega.{arith}
 use Rattle.trace.proofs.turn.Goals as goal
 
 pub returns-then-left-lt-LONGEST_LINE : goal.returns-then-left-lt-LONGEST_LINE

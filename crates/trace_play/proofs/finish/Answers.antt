@@ -1,4 +1,3 @@
-use borrow.Author.Rules.{rules}
 use Rattle.trace_play.specs.Plays.{broken, last}
 use Rattle.trace_play.proofs.finish.Goals as goal
 

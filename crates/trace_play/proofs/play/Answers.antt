@@ -1,6 +1,5 @@
-use mathlib.Core.Path.{◌≡◌, refl, sym, ◌∙◌}
+use mathlib.Core.Path.{refl, ◌∙◌}
 use native.Mathlib.Omega.{arith}
-use borrow.Author.Rules.{rules}
 use Rattle.filter.specs.Account.{nothing}
 use Rattle.trace_play.specs.Plays.{none, more}
 use Rattle.trace_play.proofs.play.Goals as goal

@@ -1,8 +1,4 @@
-use mathlib.Core.Path.{sym}
-use native.Mathlib.Omega.{arith}
-use lib.Seq.{length-take-le}
-use Rattle.trace_play.proofs.Turning.{after-sound, after-counted, after-lacks, turned}
-use borrow.Author.Rules.{rules}
+use Rattle.trace_play.proofs.Turning.{turned}
 use Rattle.trace_play.proofs.turn.Goals as goal
 
 -- the clauses by their names

@@ -1,14 +1,12 @@
-use borrow.Author.Rules.{rules}
 use native.Mathlib.Omega.{arith}
-use Prim.Native.Nat.{ℕ, ◌+◌, ◌-◌, min, ◌≤◌, ◌<◌}
-use mathlib.Core.Path.{◌≡◌, sym, subst, ◌∙◌}
-use native.Mathlib.Nat.{le_antisymm, le-add_right}
-use lib.ListN.{length, length-take}
-use lib.Seq.{length_front, length-take-le}
+use Prim.Native.Nat.{◌+◌, ◌-◌, min, ◌≤◌, ◌<◌}
+use mathlib.Core.Path.{◌≡◌, ◌∙◌}
+use native.Mathlib.Nat.{le-add_right}
+use lib.ListN.{length}
+use lib.Seq.{length_front}
 use Rattle.chunks.specs.Blocks.{BLOCK}
-use Rattle.chunks.specs.Steps.{Gathers}
 use Rattle.chunks.proofs.Parts.{part_length, length_mid}
-use Rattle.chunks.proofs.Pieces.{Stands, stands_first, stands_on, gather_first, gather_next}
+use Rattle.chunks.proofs.Pieces.{stands_first, stands_on, gather_first, gather_next}
 use Rattle.chunks.proofs.copies.gather.Goals as goal
 
 pub loop-got-init : goal.loop-got-init

@@ -1,10 +1,6 @@
-use borrow.Author.Rules.{rules}
 use Prim.Native.Nat.{◌+◌, ◌-◌, ◌≤◌, ◌<◌}
-use mathlib.Core.Path.{◌≡◌}
-use native.Mathlib.Omega.{arith}
-use lib.ListN.{length, get_or}
+use lib.ListN.{length}
 use Rattle.chunks.specs.Steps.{Lined}
-use Rattle.chunks.proofs.Pieces.{lined_more}
 use Rattle.chunks.proofs.copies.run.Given as goal
 
 abbrev pub invariant-loop-last : goal.invariant-loop-last

@@ -1,15 +1,13 @@
-use borrow.Author.Rules.{rules}
 use native.Mathlib.Omega.{arith}
 use Prim.Native.Nat.{ℕ, ◌+◌, ◌-◌, min, ◌≤◌, ◌<◌}
-use mathlib.Core.Path.{◌≡◌, refl, sym, ap, subst, ◌∙◌}
+use mathlib.Core.Path.{◌≡◌, ap, subst, ◌∙◌}
 use mathlib.Core.List.{List}
 use native.Mathlib.Nat.{le_antisymm}
-use lib.ListN.{length, take, length-take}
+use lib.ListN.{length, take}
 use lib.Seq.{length-take-le, take-length}
-use Rattle.chunks.specs.Chain.{hop}
-use Rattle.chunks.specs.Blocks.{BLOCK, hold}
+use Rattle.chunks.specs.Blocks.{BLOCK}
 use Rattle.chunks.specs.Steps.{Scatters}
-use Rattle.chunks.proofs.Pieces.{Stands, stands_first, stands_on, scatter_first, scatter_next}
+use Rattle.chunks.proofs.Pieces.{stands_on, scatter_first, scatter_next}
 use Rattle.chunks.proofs.copies.scatter.Goals as goal
 
 pub loop-done-preserved : goal.loop-done-preserved
@@ -39,4 +37,4 @@ returns-clause-scatters c =
     let starts : a.used < BLOCK = c.requires in
     let s : length (take m a.body.now) ≡ m = length-take-le m a.body.now (omega arith) in
     subst (λ (x : List ℕ). Scatters a.links.now a.pool.now a.at a.used (a.used + length a.body.now) x v.pool) b
-        (v.invariant.3 a.pool.now f.auto.pool (scatter_first a.links.now a.pool.now f.new.pool a.at a.used (a.used + length a.body.now) (take m a.body.now) starts (omega arith) (omega arith) f.ensures))
+    (v.invariant.3 a.pool.now f.auto.pool (scatter_first a.links.now a.pool.now f.new.pool a.at a.used (a.used + length a.body.now) (take m a.body.now) starts (omega arith) (omega arith) f.ensures))

@@ -1,15 +1,9 @@
-use borrow.Author.Rules.{rules}
-use native.Mathlib.Omega.{arith}
-use Prim.Native.Nat.{ℕ, ◌+◌, ◌-◌, min, ◌≤◌, ◌<◌}
-use mathlib.Core.Path.{◌≡◌, refl, sym, ap, subst, ◌∙◌}
+use Prim.Native.Nat.{ℕ, ◌+◌, ◌-◌, ◌≤◌}
+use mathlib.Core.Path.{◌≡◌}
 use mathlib.Core.List.{List}
-use native.Mathlib.Nat.{le_antisymm}
-use lib.ListN.{length, take, length-take}
-use lib.Seq.{length-take-le, take-length}
-use Rattle.chunks.specs.Chain.{hop}
-use Rattle.chunks.specs.Blocks.{BLOCK, hold}
+use lib.ListN.{length, take}
 use Rattle.chunks.specs.Steps.{Scatters}
-use Rattle.chunks.proofs.Pieces.{Stands, stands_first, stands_on, scatter_first, scatter_next}
+use Rattle.chunks.proofs.Pieces.{Stands}
 use Rattle.chunks.proofs.copies.scatter.Given as goal
 
 abbrev pub invariant-loop-done : goal.invariant-loop-done

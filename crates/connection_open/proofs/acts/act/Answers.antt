@@ -1,4 +1,3 @@
-use borrow.Author.Rules.{rules}
 use Rattle.connection_open.proofs.Opening.{refusing, ending, waiting, making}
 use Rattle.connection_open.proofs.acts.act.Goals as goal
 

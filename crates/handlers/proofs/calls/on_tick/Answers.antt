@@ -1,4 +1,3 @@
-use borrow.Author.Rules.{rules}
 use Rattle.handlers.specs.Locals.{on_tick}
 use Rattle.handlers.proofs.calls.on_tick.Goals as goal
 

@@ -1,4 +1,3 @@
-use borrow.Author.Rules.{rules}
 use borrow.Author.Tests.{lt-ltb, le-ltb, eq-eqb, ne_eqb}
 use Rattle.handlers.specs.Actions.{on_known}
 use Rattle.handlers.proofs.known_stream.on_known.Goals as goal

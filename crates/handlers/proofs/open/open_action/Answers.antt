@@ -1,4 +1,3 @@
-use borrow.Author.Rules.{rules}
 use borrow.Author.Tests.{le-leb, lt-leb}
 use Rattle.handlers.specs.Locals.{open_action}
 use Rattle.handlers.proofs.open.open_action.Goals as goal

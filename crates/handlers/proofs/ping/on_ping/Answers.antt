@@ -1,4 +1,3 @@
-use borrow.Author.Rules.{rules}
 use mathlib.Core.Path.{sym, ◌∙◌}
 use Rattle.handlers.specs.Actions.{on_ping}
 use Rattle.handlers.proofs.ping.on_ping.Goals as goal

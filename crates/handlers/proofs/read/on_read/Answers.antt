@@ -1,4 +1,3 @@
-use borrow.Author.Rules.{rules}
 use Rattle.handlers.specs.Locals.{on_read}
 use Rattle.handlers.proofs.read.on_read.Goals as goal
 

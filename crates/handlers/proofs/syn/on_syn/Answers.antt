@@ -1,4 +1,3 @@
-use borrow.Author.Rules.{rules}
 use mathlib.Core.Path.{sym, ◌∙◌}
 use borrow.Author.Tests.{le-leb, lt-leb, not-true, not-false}
 use Rattle.handlers.specs.Actions.{on_syn}

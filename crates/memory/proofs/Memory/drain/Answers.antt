@@ -1,4 +1,3 @@
-use borrow.Author.Rules.{rules}
 use Rattle.memory.proofs.Changes.{drain-moves}
 use Rattle.memory.proofs.Ranges.{ranged_popped, proper_next}
 use Rattle.memory.proofs.Memory.drain.Goals as goal

@@ -1,4 +1,3 @@
-use borrow.Author.Rules.{rules}
 use Rattle.memory.proofs.Ends.{end-moves}
 use Rattle.memory.proofs.Memory.end_all.Goals as goal
 

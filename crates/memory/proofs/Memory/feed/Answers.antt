@@ -1,4 +1,3 @@
-use borrow.Author.Rules.{rules}
 use Rattle.memory.proofs.Changes.{feed-moves}
 use Rattle.memory.proofs.Ranges.{ranged_pushed, proper_next}
 use Rattle.memory.proofs.Memory.feed.Goals as goal

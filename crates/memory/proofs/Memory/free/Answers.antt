@@ -1,4 +1,3 @@
-use borrow.Author.Rules.{rules}
 use Rattle.memory.proofs.Changes.{free-moves}
 use Rattle.memory.proofs.Memory.free.Goals as goal
 

@@ -1,4 +1,3 @@
-use borrow.Author.Rules.{rules}
 use Rattle.table.proofs.Laws.{proper_row}
 use Rattle.memory.proofs.Changes.{store-moves}
 use Rattle.memory.proofs.Ranges.{ranged_row, proper_next}

@@ -1,8 +1,6 @@
-use mathlib.Core.Path.{sym, subst}
-use lib.Seq.{length-take-le}
+use mathlib.Core.Path.{subst}
 use Rattle.trace_events.specs.Calls.{Lies}
 use Rattle.trace.proofs.Applying.{tick-applies, frame-applies, open-applies, read-applies, write-applies, close-applies, drop-applies, gone-applies}
-use borrow.Author.Rules.{rules}
 use native.Mathlib.Omega.{arith}
 use Rattle.trace.proofs.apply.apply.Goals as goal
 
