@@ -116,18 +116,18 @@ func numbers() []string {
 // The lines of the definitions that have a number of theirs.
 func definitions() []string {
 	return []string{
-		fmt.Sprint("tagNumber Data = ", typeData),
-		fmt.Sprint("tagNumber WindowUpdate = ", typeWindowUpdate),
-		fmt.Sprint("tagNumber Ping = ", typePing),
-		fmt.Sprint("tagNumber GoAway = ", typeGoAway),
+		fmt.Sprint("tag_number Data = ", typeData),
+		fmt.Sprint("tag_number WindowUpdate = ", typeWindowUpdate),
+		fmt.Sprint("tag_number Ping = ", typePing),
+		fmt.Sprint("tag_number GoAway = ", typeGoAway),
 		fmt.Sprintf("syn = record { 0 = %d }", flagSYN),
 		fmt.Sprintf("ack = record { 0 = %d }", flagACK),
 		fmt.Sprintf("fin = record { 0 = %d }", flagFIN),
 		fmt.Sprintf("rst = record { 0 = %d }", flagRST),
 		fmt.Sprint("normal = ", goAwayNormal),
-		fmt.Sprint("protocolError = ", goAwayProtoErr),
-		fmt.Sprint("internalError = ", goAwayInternalErr),
-		fmt.Sprint("initialWindow = ", initialStreamWindow),
+		fmt.Sprint("protocol_error = ", goAwayProtoErr),
+		fmt.Sprint("internal_error = ", goAwayInternalErr),
+		fmt.Sprint("initial_window = ", initialStreamWindow),
 	}
 }
 
