@@ -1,7 +1,7 @@
 #!/usr/bin/env python3
 """Spells the repository's own definitions and lemmas as Rattle does: words in snake case, facts and types in camel case.
 
-usage: tools/respell.py          at the top, once, on what /opt/rattle/port/port.py left
+usage: tools/respell.py          at the top, once, on what the kit's port/port.py left
 
 Rows are made from the declarations of specs/ and of the lemma files of proofs/. A name in camel case that starts small gets
 underscores; a dash stays where all that it joins are names, and else becomes an underscore; the three facts that began small
@@ -11,13 +11,15 @@ An edit's text is also brought to the projections, primes and paths that port.py
 import glob
 import os
 import re
+import subprocess
 import sys
 
 # the facts that began small, two lemmas that would fall together with a definition, and a constructor
 GIVEN = {"about": "IsAbout", "aboutDecoded": "IsAboutDecoded", "livesAt": "IsAliveAt", "by_two": "by_two_lem", "data-frame": "data_frame_lem", "open-stream": "open_stream"}
 # std's words of an older kit, in the edits that port.py leaves
 WORDS = {"getD": "get_or", "_≡_": "◌≡◌"}
-KIT = "/opt/rattle/rattle/std"
+# std beside the page that `rt doc` names
+KIT = os.path.join(os.path.dirname(subprocess.run(["rt", "doc"], capture_output=True, text=True, check=True).stdout.strip()), "rattle/std")
 TOKEN = re.compile(r"[^\s(){}.;,:@\"«»`]+")
 DECLARED = re.compile(r"^(?:(?:pub|abbrev|unfoldable|record|data)\s+)*([^\s:(){}]+)\s*(?:\(.*\)|\{.*\})*\s*:")
 
