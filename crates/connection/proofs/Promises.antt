@@ -94,3 +94,7 @@ module _ (c : Connection) (t l p : List ℕ) where
 
     pub refusing : sized ≡ true → (r : Reply) → (Valid c t l p → step (abs_of c t l p) call ≡ refuse (abs_of c t l p) r) → Promised sized c t l p call (refused c r) t l p
     refusing e r same = promised e (λ x. refuse x r) (refused c r) t l p same (refused-handles r)
+
+-- ---- two clauses by their names
+pub named : {A B : Type 0} → A × B → record { by_index : A; gives : B }
+named x = record { by_index = x.0; gives = x.1 }

@@ -74,9 +74,9 @@ moves (freed i) = true
 
 -- unless the call ends the connection, a held slot that it is not about stays as it is
 abbrev pub Beside : Conn → (ℕ → Type 0) → Conn → Type 0
-Beside c IsAbout d = d.ended ≡ c.ended → (j : ℕ) → (entry c.slots j).held ≡ true → (IsAbout j → ⊥) → entry d.slots j ≡ entry c.slots j
+Beside c About d = d.ended ≡ c.ended → (j : ℕ) → (entry c.slots j).held ≡ true → (About j → ⊥) → entry d.slots j ≡ entry c.slots j
 
-pub record Sound (c : Conn) (IsAbout : ℕ → Type 0) (e : Event) (r : Result) : Type 0 where
+pub record Sound (c : Conn) (About : ℕ → Type 0) (e : Event) (r : Result) : Type 0 where
   pub inv : Inv r.after
   pub config : r.after.config ≡ c.config
   pub next : c.next_id ≤ r.after.next_id
@@ -84,10 +84,10 @@ pub record Sound (c : Conn) (IsAbout : ℕ → Type 0) (e : Event) (r : Result) 
   pub silent : may_give r.outcome.reply ≡ false → Bare r.outcome
   pub figure : (r.after.growth ≡ c.growth) ⊎ (moves e ≡ true)
   pub moved : (j : ℕ) → bytes_of r.after.slots j ≡ left e (bytes_of c.slots) j
-  pub beside : Beside c IsAbout r.after
+  pub beside : Beside c About r.after
 
-module _ (c : Conn) (IsAbout : ℕ → Type 0) (e : Event) where
-  pub refused : Inv c → (r : Reply) → ((j : ℕ) → bytes_of c.slots j ≡ left e (bytes_of c.slots) j) → Sound c IsAbout e (refuse c r)
+module _ (c : Conn) (About : ℕ → Type 0) (e : Event) where
+  pub refused : Inv c → (r : Reply) → ((j : ℕ) → bytes_of c.slots j ≡ left e (bytes_of c.slots) j) → Sound c About e (refuse c r)
   refused v r b = record {
     inv = v;
     config = refl;
@@ -102,7 +102,7 @@ module _ (c : Conn) (IsAbout : ℕ → Type 0) (e : Event) where
   -- an answer with reply 0, 1 or 2
   pub done :
       (o : Outcome) (d : Conn) → may_give o.reply ≡ true → leaves_all o.reply ≡ false → Inv d → d.config ≡ c.config → c.next_id ≤ d.next_id → (d.growth ≡ c.growth) ⊎ (moves e ≡ true) →
-      ((j : ℕ) → bytes_of d.slots j ≡ left e (bytes_of c.slots) j) → Beside c IsAbout d → Sound c IsAbout e (gives o d)
+      ((j : ℕ) → bytes_of d.slots j ≡ left e (bytes_of c.slots) j) → Beside c About d → Sound c About e (gives o d)
   done o d g l v k m f b s = record {
     inv = v;
     config = k;
@@ -165,8 +165,8 @@ module _ (c : Conn) (v : Inv c) where
     quiet = λ t. none-listed;
   }
 
-  pub ends : c.ended ≡ false → (IsAbout : ℕ → Type 0) (e : Event) (r : Reply) → leaves_all r ≡ false → e ≡ nothing → Sound c IsAbout e (end c r)
-  ends live IsAbout e r l k = record {
+  pub ends : c.ended ≡ false → (About : ℕ → Type 0) (e : Event) (r : Reply) → leaves_all r ≡ false → e ≡ nothing → Sound c About e (end c r)
+  ends live About e r l k = record {
     inv = ended-kept;
     config = refl;
     next = le_refl _;

@@ -57,6 +57,7 @@ fn read_more<R: Read>(input: &mut R, src: &mut [u8], have: usize) -> Got
     if have < src.len() {
         return match input.read(&mut src[have..]) {
             Ok(n) => answered(n as isize, have, have + n),
+            // as read(2) answers a failure
             Err(_) => answered(-1, have, have),
         };
     }
@@ -152,7 +153,7 @@ fn least(a: usize, b: usize) -> usize
     if a < b { a } else { b }
 }
 
-// Writes what was put: no more than the room holds.
+// Writes what was put, no more than the room holds, and leaves nothing of it with the writer.
 pub fn flush<W: Write>(s: Standing, output: &mut W, out: &[u8]) -> Standing
     ensures { Flushes s out.now result }
 {

@@ -91,7 +91,7 @@ fn passed(state: State) -> u64
 
 // Writes the lines that there are, and the last line.
 fn finish<W: Write>(state: State, stop: Stop, output: &mut W, out: &mut [u8]) -> State
-    requires at_le_have { (state.standing.at ≤ state.standing.have) × (state.standing.put ≤ length out.old) × (100 ≤ length out.old) × (state.standing.done ≡ false) }
+    requires inside { (state.standing.at ≤ state.standing.have) × (state.standing.put ≤ length out.old) × (100 ≤ length out.old) × (state.standing.done ≡ false) }
     requires counted { Counted state }
     ensures { Closes stop state out.old result out.new }
 {
@@ -128,11 +128,11 @@ fn go_on<R: Read, W: Write>(
     requires sound { Sound (length src.old) (length out.old) state.standing }
     requires roomy { Roomy (length src.old) (length out.old) }
     requires lacks { Lacks stop state.standing.have state.standing.at (length out.old) state.standing.put }
-    requires done_value { state.standing.done ≡ false }
+    requires not_done { state.standing.done ≡ false }
     requires counted { Counted state }
-    ensures sound_2 { Sound (length src.old) (length out.old) result.standing }
+    ensures sound_after { Sound (length src.old) (length out.old) result.standing }
     ensures nears { Nears state result }
-    ensures counted_2 { Counted result }
+    ensures counted_after { Counted result }
     ensures goes { Goes stop state src.old out.old result src.new out.new }
 {
     let standing = state.standing;
@@ -206,12 +206,12 @@ fn turn<R: Read, W: Write>(
     requires sound { Sound (length src.old) (length out.old) state.standing }
     requires roomy { Roomy (length src.old) (length out.old) }
     requires valid { Valid state.connection table.old links.old pool.old × (length sent.old ≡ 12) × (length bytes.old ≡ 16384) }
-    requires done_value { state.standing.done ≡ false }
+    requires not_done { state.standing.done ≡ false }
     requires counted { Counted state }
-    ensures sound_2 { Sound (length src.old) (length out.old) result.standing }
+    ensures sound_after { Sound (length src.old) (length out.old) result.standing }
     ensures nears { Nears state result }
-    ensures counted_2 { Counted result }
-    ensures valid_2 { Valid result.connection table.new links.new pool.new }
+    ensures counted_after { Counted result }
+    ensures valid_after { Valid result.connection table.new links.new pool.new }
     ensures turns { Turns state (lent table.old links.old pool.old src.old out.old) result (lent table.new links.new pool.new src.new out.new) }
 {
     let connection = state.connection;

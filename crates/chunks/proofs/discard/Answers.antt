@@ -1,3 +1,4 @@
+-- Without a block nothing moves; else the queue's chain is put before the free one. Assumes nothing.
 use mathlib.Core.Path.{◌≡◌, ap, ◌∙◌}
 use Prim.Native.Nat.{◌-◌}
 use native.Mathlib.Omega.{arith}

@@ -1,3 +1,4 @@
+-- `chunks::hop` meets its contract, by the invariant of its loop. Assumes nothing.
 use borrow.Author.Rules.{rules}
 use Prim.Native.Nat.{ℕ}
 use mathlib.Core.Path.{sym, ap, ◌∙◌}

@@ -1,3 +1,4 @@
+-- `node` is where i links lead; the measure is how many are left. Assumes nothing.
 use Prim.Native.Nat.{◌-◌, ◌≤◌}
 use mathlib.Core.Path.{◌≡◌}
 use Rattle.chunks.specs.Chain.{hop}

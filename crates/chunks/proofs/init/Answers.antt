@@ -1,3 +1,4 @@
+-- `chunks::init` meets its contract, by the invariant of its loop. Assumes nothing.
 use Prim.Native.Nat.{ℕ, ◌-◌, min, ◌<◌, ◌^◌}
 use mathlib.Core.Path.{◌≡◌, refl, sym, ap, subst, ◌∙◌}
 use native.Mathlib.Nat.{le_antisymm}

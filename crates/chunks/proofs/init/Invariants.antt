@@ -1,3 +1,4 @@
+-- Each link below i is the next number; the measure is how many links are left. Assumes nothing.
 use Prim.Native.Nat.{ℕ, ◌+◌, ◌-◌, min, ◌≤◌, ◌<◌, ◌^◌}
 use mathlib.Core.Path.{◌≡◌}
 use lib.ListN.{length, get_or}

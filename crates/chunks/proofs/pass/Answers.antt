@@ -1,3 +1,4 @@
+-- All that is unread goes with all blocks; else the blocks that are used up go, if there are any. Assumes nothing.
 use Prim.Native.Nat.{ℕ, ◌+◌, ◌-◌, ◌/◌, ◌%◌, ◌≤◌}
 use mathlib.Core.Path.{◌≡◌, refl, sym, ap, subst, ◌∙◌}
 use mathlib.Core.List.{List}
@@ -9,6 +10,7 @@ use Rattle.chunks.specs.declared.Queue.{Queue}
 use Rattle.chunks.proofs.Moves.{pass_in, pass_over}
 use Rattle.chunks.proofs.pass.Goals as goal
 
+-- with no more than n bytes unread, n bytes are all of them
 spent : (l p : List ℕ) (q : Queue) (n : ℕ) → q.unread ≤ n → length (content l p q) ≤ n
 spent l p q n h = omega (arith, length-take q.unread (drop q.from (bytes p (nodes l q))))
 

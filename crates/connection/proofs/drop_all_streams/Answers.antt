@@ -1,3 +1,4 @@
+-- `connection::drop_all_streams` meets its contract: the memory is ended, and the answer says all. Assumes nothing.
 use Rattle.connection.proofs.Ending.{end-handles}
 use Rattle.connection.proofs.drop_all_streams.Goals as goal
 

@@ -1,13 +1,10 @@
+-- `connection_drop::on_drop_stream` meets its contract: the handle's tests are the rules' own, and behind them stand the rules of a drop. Assumes nothing.
 use mathlib.Core.Path.{refl, sym, ◌∙◌}
 use Rattle.rules.specs.Step.{drop, step}
-use Rattle.connection.proofs.Promises.{refused-gives}
+use Rattle.connection.proofs.Promises.{refused-gives, named}
 use Rattle.connection.proofs.Tests.{handle-shut}
 use Rattle.connection_drop.proofs.Dropping.{drop_promised}
 use Rattle.connection_drop.proofs.on_drop_stream.Goals as goal
-
--- the clauses by their names
-all : {A B : Type 0} → A × B → record { by_index : A; gives : B }
-all x = record { by_index = x.0; gives = x.1 }
 
 pub returns-in-Refused : goal.returns-in-Refused
 unfolding step
@@ -24,5 +21,5 @@ returns-in-Held c =
     let a = c.args in
     let k = c.release-done in
     rw (← c.links_fit-linked.ensures)
-    (all (drop_promised _ a.c a.table.now a.links.now a.time a.slot _ (sym c.held_row-found.ensures ∙ c.in-Held.is)
+    (named (drop_promised _ a.c a.table.now a.links.now a.time a.slot _ (sym c.held_row-found.ensures ∙ c.in-Held.is)
     k.result k.new.table k.new.links _ _ k.ensures c.put.ensures))

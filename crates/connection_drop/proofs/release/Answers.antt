@@ -1,3 +1,4 @@
+-- `connection_drop::release` meets its contract: the growth is given back, the stream removed, and the slot freed. Assumes nothing.
 use Rattle.connection_drop.proofs.Dropping.{release-handles}
 use Rattle.connection_drop.proofs.release.Goals as goal
 

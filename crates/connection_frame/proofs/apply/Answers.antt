@@ -1,3 +1,4 @@
+-- `connection_frame::apply` meets its contract: each arm is one operation on memory. Assumes nothing.
 use mathlib.Core.Path.{refl}
 use Rattle.connection_frame.proofs.apply.Goals as goal
 

@@ -1,3 +1,4 @@
+-- `connection_frame::on_decoded` meets its contract: each arm is what was found. Assumes nothing.
 use mathlib.Core.Path.{refl}
 use Rattle.rules.specs.declared.Reply.TheVariants as reply
 use Rattle.connection.proofs.Promises.{refused-handles}
@@ -23,12 +24,10 @@ pub returns-then-body-n : goal.returns-then-body-n
 returns-then-body-n c =
     let a = c.args in
     let w = c.on_type in
-    let n = c in
-    let e = rw n.body_length-n.ensures at c.if-body-n.true in
-    rw n.in-Header.is (header-handles a.c a.table.now a.links.now a.pool.now _ a.body.now a.time e w.result w.new.table w.new.links w.new.pool (w.ensures e))
+    let e = rw c.body_length-n.ensures at c.if-body-n.true in
+    rw c.in-Header.is (header-handles a.c a.table.now a.links.now a.pool.now _ a.body.now a.time e w.result w.new.table w.new.links w.new.pool (w.ensures e))
 
 pub returns-else-body-n : goal.returns-else-body-n
 returns-else-body-n c =
     let a = c.args in
-    let n = c in
-    rw (n.in-Header.is, c.refuse-else-body-n.ensures) (header_refused a.c a.table.now a.links.now a.pool.now _ a.body.now a.time (rw n.body_length-n.ensures at c.if-body-n.false))
+    rw (c.in-Header.is, c.refuse-else-body-n.ensures) (header_refused a.c a.table.now a.links.now a.pool.now _ a.body.now a.time (rw c.body_length-n.ensures at c.if-body-n.false))

@@ -1,3 +1,4 @@
+-- `connection_frame::on_ping` meets its contract: the pings alone change. Assumes nothing.
 use Rattle.connection_frame.proofs.Orders.{ping_handles}
 use Rattle.connection_frame.proofs.on_ping.Goals as goal
 

@@ -1,3 +1,4 @@
+-- `connection_frame::on_stream` meets its contract: a handler decides from what it is shown, and its action is applied. Assumes nothing.
 use Rattle.connection_frame.proofs.Arrives.{stream-handled}
 use Rattle.connection_frame.proofs.on_stream.Goals as goal
 

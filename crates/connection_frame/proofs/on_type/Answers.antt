@@ -1,3 +1,4 @@
+-- `connection_frame::on_type` meets its contract: each arm is its type's rule. Assumes nothing.
 use mathlib.Core.Path.{refl}
 use Rattle.frame.specs.declared.header.Tag.TheVariants as tag
 use Rattle.rules.specs.Frames.{frame_rules}

@@ -1,3 +1,4 @@
+-- `connection_open::open` meets its contract: the gate, and behind it what is decided. Assumes nothing.
 use mathlib.Core.Path.{sym, ◌∙◌, subst}
 use Rattle.handlers.specs.declared.Opening.{Opening}
 use Rattle.connection_open.specs.Open.{Acts}

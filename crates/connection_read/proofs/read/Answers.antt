@@ -1,3 +1,4 @@
+-- `connection_read::read` meets its contract: the handle's refusal, or its row read and the header put. Assumes nothing.
 use mathlib.Core.Path.{sym, ◌∙◌}
 use Rattle.connection_read.proofs.Calls.{refused-call, held-call}
 use Rattle.connection_read.proofs.read.Goals as goal

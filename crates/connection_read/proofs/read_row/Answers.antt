@@ -1,3 +1,4 @@
+-- `connection_read::read_row` meets its contract: nothing is read of an ended connection, else the step is taken. Assumes nothing.
 use mathlib.Core.Path.{sym, ◌∙◌}
 use lib.ListN.{length}
 use Rattle.rules.specs.State.{entry}

@@ -1,12 +1,12 @@
+-- `connection_read::take` meets its contract: the front of the lent output is all that the drain is lent. Assumes nothing.
 use Rattle.connection_read.proofs.Draws.{take-reads}
 use Rattle.connection_read.proofs.take.Goals as goal
 
 pub returns : goal.returns
 returns c gives draws =
-    let s = c in
-    let a = s.args in
+    let a = c.args in
     let d = c.drain-memory in
     let e = c.count-count.ensures in
     rw e
     (take-reads a.c a.table.now a.links.now a.pool.now a.slot.0 a.step d.result d.new.table d.new.links
-    a.row gives draws a.out.now s.requires d.new.out (rw e at d.auto.out) (rw e at d.ensures))
+    a.row gives draws a.out.now c.requires d.new.out (rw e at d.auto.out) (rw e at d.ensures))

@@ -1,15 +1,12 @@
+-- `connection_write::close` meets its contract: the handle's tests are the rules' own, and behind them the stream is put back. Assumes nothing.
 use mathlib.Core.Path.{refl, sym, ◌∙◌}
 use mathlib.Core.List.{[]}
 use Rattle.stream.proofs.Laws.{close_same}
 use Rattle.rules.specs.Step.{close, step}
-use Rattle.connection.proofs.Promises.{refused-gives}
+use Rattle.connection.proofs.Promises.{refused-gives, named}
 use Rattle.connection.proofs.Tests.{handle-shut}
 use Rattle.connection_write.proofs.Handles.{close_promised}
 use Rattle.connection_write.proofs.close.Goals as goal
-
--- the clauses by their names
-all : {A B : Type 0} → A × B → record { by_index : A; gives : B }
-all x = record { by_index = x.0; gives = x.1 }
 
 pub returns-in-Refused : goal.returns-in-Refused
 unfolding step
@@ -27,5 +24,5 @@ returns-in-Held c =
     let e = sym c.held_row-found.ensures ∙ c.in-Held.is in
     let k = rw c.on_close-step.ensures at c.keep.ensures in
     rw (← c.table_fits.ensures)
-    (all (close_promised _ a.c a.table.now a.time a.slot.0 c.in-Held.row e _ _ _ _
+    (named (close_promised _ a.c a.table.now a.time a.slot.0 c.in-Held.row e _ _ _ _
     (λ h. let x = k h (close_same c.in-Held.row.stream).0 refl in (λ l p. x.0 l p [], x.1))))

@@ -1,3 +1,4 @@
+-- `connection_write::peer_gone` meets its contract: the gate is the rules' own, and behind it stands the end. Assumes nothing.
 use mathlib.Core.Path.{refl, sym, ◌∙◌}
 use Rattle.rules.specs.Ending.{end}
 use Rattle.rules.specs.Step.{gone, step}

@@ -1,3 +1,4 @@
+-- `connection_write::tick` meets its contract: the gate is the rules' own, and behind it stands the ping. Assumes nothing.
 use mathlib.Core.Path.{refl, sym, ◌∙◌}
 use mathlib.Core.List.{[]}
 use Rattle.rules.specs.Calls.{tick_rules}

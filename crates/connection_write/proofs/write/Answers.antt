@@ -1,3 +1,4 @@
+-- `connection_write::write` meets its contract: the handle's tests are the rules' own, and behind them a refusal, or the stream put back. Assumes nothing.
 use mathlib.Core.Path.{refl, sym, ◌∙◌}
 use lib.ListN.{length}
 use Rattle.rules.specs.Step.{write, step}

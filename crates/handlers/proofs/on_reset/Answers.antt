@@ -1,3 +1,4 @@
+-- `handlers::on_reset` meets its contract. Assumes nothing.
 use Rattle.handlers.specs.Actions.{on_reset}
 use Rattle.handlers.proofs.on_reset.Goals as goal
 

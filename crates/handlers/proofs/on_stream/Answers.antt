@@ -1,3 +1,4 @@
+-- `handlers::on_stream` meets its contract. Assumes nothing.
 use mathlib.Core.Path.{sym, ◌∙◌}
 use Rattle.handlers.specs.Actions.{stream_action}
 use Rattle.handlers.proofs.on_stream.Goals as goal

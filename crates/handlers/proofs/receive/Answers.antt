@@ -1,3 +1,4 @@
+-- `handlers::receive` meets its contract. Assumes nothing.
 use mathlib.Core.Path.{sym, ◌∙◌}
 use Rattle.handlers.specs.Actions.{receive}
 use Rattle.handlers.proofs.receive.Goals as goal

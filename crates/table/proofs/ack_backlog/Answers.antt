@@ -1,3 +1,4 @@
+-- `table::ack_backlog` meets its contract, by the invariant of its loop. Assumes nothing.
 use mathlib.Core.Path.{◌≡◌}
 use native.Mathlib.Nat.{le_antisymm}
 use native.Mathlib.Omega.{arith}

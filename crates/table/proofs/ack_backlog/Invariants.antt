@@ -1,3 +1,4 @@
+-- `table::ack_backlog` meets its contract. The count so far and what the rows from `i` on count make the whole. The measure is the number of rows left. Assumes nothing.
 use mathlib.Core.Path.{◌≡◌}
 use Prim.Native.Nat.{◌+◌, ◌-◌, ◌≤◌}
 use Rattle.table.specs.Table.{unacknowledged}

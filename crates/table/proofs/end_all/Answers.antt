@@ -1,3 +1,4 @@
+-- `table::end_all` meets its contract, by the invariant of its loop. Assumes nothing.
 use mathlib.Core.Path.{refl, sym, ◌∙◌}
 use native.Mathlib.Omega.{arith}
 use Rattle.table.specs.Table.{ended}

@@ -1,3 +1,4 @@
+-- `table::end_all` meets its contract. The rows of the first `i` slots are ended. The measure is the number of slots left. Assumes nothing.
 use mathlib.Core.Path.{◌≡◌}
 use Prim.Native.Nat.{◌-◌, ◌≤◌}
 use Rattle.table.specs.Table.{ended}

@@ -1,3 +1,4 @@
+-- `table::find` meets its contract. A hinted slot is taken only where its key says so; else the keys are scanned. Assumes nothing.
 use Rattle.table.proofs.Scans.{scan-finds}
 use Rattle.table.proofs.find.Goals as goal
 

@@ -1,3 +1,4 @@
+-- `table::init` meets its contract. The cells before `i` are 0. The measure is the number of cells left. Assumes nothing.
 use mathlib.Core.Path.{◌≡◌}
 use Prim.Native.Nat.{ℕ, ◌-◌, ◌≤◌, ◌<◌}
 use lib.ListN.{get_or, length}

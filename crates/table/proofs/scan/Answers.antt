@@ -1,3 +1,4 @@
+-- `table::scan` meets its contract, by the invariant of its loop. Assumes nothing.
 use native.Mathlib.Omega.{arith}
 use Rattle.table.proofs.Scans.{scan-at, scan-nowhere}
 use Rattle.table.proofs.scan.Goals as goal

@@ -1,3 +1,4 @@
+-- `table::scan` meets its contract. None of the keys before `i` is the one looked for. The measure is the number of keys left. Assumes nothing.
 use mathlib.Core.Path.{◌≡◌}
 use Prim.Native.Nat.{ℕ, ◌-◌, min, ◌≤◌, ◌<◌}
 use lib.ListN.{get_or, length}

@@ -1,3 +1,4 @@
+-- `trace::go` meets its contract, by the invariant of its loop. Assumes nothing.
 use mathlib.Core.Path.{refl}
 use mathlib.Core.Bool.{true}
 use Rattle.trace.proofs.Running.{turned, halted-runs, spent-runs}

@@ -1,3 +1,4 @@
+-- `trace::turn` meets its contract: an event that is there, with room for its line, is applied and written. Assumes nothing.
 use mathlib.Core.Path.{refl, sym, ◌∙◌}
 use Prim.Native.Nat.{◌+◌}
 use Rattle.trace.proofs.Turning.{short-halts, bad-halts, short-lacks, lies, full-halts, goes}
@@ -12,9 +13,8 @@ returns-then-left-lt-LONGEST_LINE c =
 
 pub apply-done-requires : goal.apply-done-requires
 apply-done-requires c =
-    let s = c in
-    let h = lies s.args.src.now s.args.place.at _ (sym c.read_event-found.ensures ∙ c.in-Event.is) in
-    (h.1, h.0.1, s.requires.1)
+    let h = lies c.args.src.now c.args.place.at _ (sym c.read_event-found.ensures ∙ c.in-Event.is) in
+    (h.1, h.0.1, c.requires.1)
 
 pub returns-in-Short : goal.returns-in-Short
 returns-in-Short c =
@@ -30,12 +30,11 @@ returns-in-Bad c =
 
 pub returns-else-left-lt-LONGEST_LINE : goal.returns-else-left-lt-LONGEST_LINE
 returns-else-left-lt-LONGEST_LINE c =
-    let s = c in
-    let a = s.args in
+    let a = c.args in
     let k = c.apply-done in
     let w = c.show-put in
     let room = rw c.room_left-left.ensures at c.if-left-lt-LONGEST_LINE.false in (
       refl,
       goes a.c a.table.now a.links.now a.pool.now a.sent.now a.src.now a.place.at (a.place.applied + 1) a.out.now a.place.put _ _ k.result _ _ _ _ _ _
-          (sym c.read_event-found.ensures ∙ c.in-Event.is) s.requires.0 room k.ensures w.ensures.stores w.ensures.upper_bound,
+          (sym c.read_event-found.ensures ∙ c.in-Event.is) c.requires.0 room k.ensures w.ensures.stores w.ensures.upper_bound,
     )

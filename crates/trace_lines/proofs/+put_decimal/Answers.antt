@@ -1,3 +1,4 @@
+-- `trace_lines::put_decimal` meets its contract: the digits of n / 10 are stored, and one more after them. Assumes nothing.
 use Rattle.trace_lines.proofs.Stored.{stores_one, stores_then}
 use Rattle.trace_lines.proofs.Texts.{one_digit, digit_more, decimal-one, decimal_more}
 use native.Mathlib.Omega.{arith}

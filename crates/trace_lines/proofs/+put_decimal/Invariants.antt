@@ -1,3 +1,4 @@
+-- The measure is the number.
 use Rattle.trace_lines.proofs.+put_decimal.Given as goal
 
 abbrev pub decreases-put_decimal : goal.decreases-put_decimal

@@ -1,3 +1,4 @@
+-- `trace_lines::config_line` meets its contract. Assumes nothing.
 use Prim.Native.Nat.{◌+◌, ◌≤◌}
 use Rattle.trace_lines.specs.Line.{config_line}
 use Rattle.trace_lines.proofs.Stored.{stores_then, writes}

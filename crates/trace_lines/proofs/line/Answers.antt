@@ -1,3 +1,4 @@
+-- `trace_lines::line` meets its contract. Assumes nothing.
 use Prim.Native.Nat.{◌+◌, ◌≤◌}
 use Rattle.trace_lines.specs.Writing.{line_room}
 use Rattle.trace_lines.proofs.Stored.{writes}

@@ -1,3 +1,4 @@
+-- `trace_lines::put_bytes` meets its contract. Assumes nothing.
 use mathlib.Core.Path.{◌≡◌, ◌∙◌}
 use mathlib.Core.List.{[]}
 use Prim.Native.Nat.{◌<◌}

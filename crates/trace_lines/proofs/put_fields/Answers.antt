@@ -1,3 +1,4 @@
+-- `trace_lines::put_fields` meets its contract: each field is stored after the one before it. Assumes nothing.
 use Rattle.trace_lines.proofs.Stored.{stores_then}
 use Rattle.trace_lines.specs.Line.{line_of}
 use Rattle.trace_lines.proofs.put_fields.Goals as goal

@@ -1,3 +1,4 @@
+-- `trace_lines::put_hex` meets its contract, by the invariant of its loop. Assumes nothing.
 use Prim.Native.Nat.{◌<◌}
 use native.Mathlib.Numerals.{add-one}
 use Rattle.trace_lines.specs.Line.{hex}

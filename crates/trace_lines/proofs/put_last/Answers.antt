@@ -1,3 +1,4 @@
+-- `trace_lines::put_last` meets its contract. Assumes nothing.
 use Prim.Native.Nat.{◌+◌, ◌≤◌}
 use Rattle.trace_lines.specs.Line.{last_of}
 use Rattle.trace_lines.proofs.Stored.{stores_then, writes}

@@ -1,3 +1,4 @@
+-- `trace_lines::put_marks` meets its contract. Assumes nothing.
 use Rattle.trace_lines.specs.Line.{marks}
 use Rattle.trace_lines.proofs.Stored.{stores_then}
 use Rattle.trace_lines.proofs.put_marks.Goals as goal

@@ -1,3 +1,4 @@
+-- `trace_lines::put_number` meets its contract. Assumes nothing.
 use Rattle.trace_lines.proofs.Texts.{decimal-size}
 use Rattle.trace_lines.proofs.Stored.{stores_one, stores_then}
 use native.Mathlib.Omega.{arith}

@@ -1,3 +1,4 @@
+-- `trace_lines::put_text` meets its contract. Assumes nothing.
 use Rattle.trace_lines.proofs.Stored.{stores-copy}
 use Rattle.trace_lines.proofs.put_text.Goals as goal
 

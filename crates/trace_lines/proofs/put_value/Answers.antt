@@ -1,3 +1,4 @@
+-- `trace_lines::put_value` meets its contract. Assumes nothing.
 use Rattle.trace_lines.specs.Line.{value_text}
 use Rattle.trace_lines.proofs.put_value.Goals as goal
 

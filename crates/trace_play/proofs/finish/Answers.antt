@@ -1,3 +1,4 @@
+-- `trace_play::finish` meets its contract: two writes, the second where the first did its work. Assumes nothing.
 use Rattle.trace_play.specs.Plays.{broken, last}
 use Rattle.trace_play.proofs.finish.Goals as goal
 

@@ -1,9 +1,10 @@
+-- `trace_play::go_on` meets its contract: each task has what follows it. Assumes nothing.
 use mathlib.Core.Path.{sym, ◌∙◌}
 use Rattle.trace_play.proofs.Acting.{end-acts}
 use Rattle.trace_play.proofs.go_on.Goals as goal
 
-pub returns-in-End-clause-sound_2 : goal.returns-in-End-clause-sound_2
-returns-in-End-clause-sound_2 g c =
+pub returns-in-End-clause-sound_after : goal.returns-in-End-clause-sound_after
+returns-in-End-clause-sound_after g c =
     let a = c.args in
     let p = c.requires in
-    (end-acts a.state a.stop a.src.now a.out.now p.sound p.roomy p.lacks p.done_value p.counted (sym c.next_task-task.ensures ∙ c.in-End.is) c.finish.ensures.1).0
+    (end-acts a.state a.stop a.src.now a.out.now p.sound p.roomy p.lacks p.not_done p.counted (sym c.next_task-task.ensures ∙ c.in-End.is) c.finish.ensures.1).0

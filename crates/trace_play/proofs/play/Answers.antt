@@ -1,7 +1,8 @@
+-- `trace_play::play` meets its contract, by the invariant of its loop. Assumes nothing.
 use mathlib.Core.Path.{refl, ◌∙◌}
 use native.Mathlib.Omega.{arith}
 use Rattle.filter.specs.Account.{nothing}
-use Rattle.trace_play.specs.Plays.{none, more}
+use Rattle.trace_play.specs.Plays.{lent, none, more}
 use Rattle.trace_play.proofs.play.Goals as goal
 
 pub loop-done-init : goal.loop-done-init
@@ -14,12 +15,12 @@ loop-done-preserved g c =
     let k = c.turn-state in
     let v = c.loop-done.invariant in
     let e = k.ensures in (
-      (e.sound_2.0, omega (arith, e.sound_2.1, k.auto.src), omega (arith, e.sound_2.2, k.auto.out)),
+      (e.sound_after.0, omega (arith, e.sound_after.1, k.auto.src), omega (arith, e.sound_after.2, k.auto.out)),
       (omega (arith, v.1.0, k.auto.src), omega (arith, v.1.1, k.auto.out)),
-      e.valid_2,
+      e.valid_after,
       k.auto.sent ∙ v.3,
       k.auto.bytes ∙ v.4,
       refl,
-      (_, more v.6.1 e.turns.1),
-      e.counted_2,
+      (_, more {m₂ = lent k.new.table k.new.links k.new.pool k.new.src k.new.out} v.6.1 e.turns.1),
+      e.counted_after,
     )

@@ -1,3 +1,4 @@
+-- The first `got` bytes of out are the chain's, and `last` is the last block that they were in; the measure is how many are left. Assumes nothing.
 use Prim.Native.Nat.{◌+◌, ◌-◌, ◌≤◌}
 use mathlib.Core.Path.{◌≡◌}
 use lib.ListN.{length}

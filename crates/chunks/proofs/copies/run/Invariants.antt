@@ -1,3 +1,4 @@
+-- The blocks up to `last` are linked each to the next in the pool; the measure is how many are left to try. Assumes nothing.
 use Prim.Native.Nat.{◌+◌, ◌-◌, ◌≤◌, ◌<◌}
 use lib.ListN.{length}
 use Rattle.chunks.specs.Steps.{Lined}

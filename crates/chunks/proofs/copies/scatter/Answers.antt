@@ -1,3 +1,4 @@
+-- `chunks::copies::scatter` meets its contract, by the invariant of its loop. Assumes nothing.
 use native.Mathlib.Omega.{arith}
 use Prim.Native.Nat.{ℕ, ◌+◌, ◌-◌, min, ◌≤◌, ◌<◌}
 use mathlib.Core.Path.{◌≡◌, ap, subst, ◌∙◌}

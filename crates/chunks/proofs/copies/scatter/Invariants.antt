@@ -1,3 +1,4 @@
+-- The first `done` bytes of the body are in the chain's blocks, and `last` is the last of these; the measure is how many are left. Assumes nothing.
 use Prim.Native.Nat.{ℕ, ◌+◌, ◌-◌, ◌≤◌}
 use mathlib.Core.Path.{◌≡◌}
 use mathlib.Core.List.{List}

@@ -1,3 +1,4 @@
+-- `acts::act` meets its contract, opening by opening. Assumes nothing.
 use Rattle.connection_open.proofs.Opening.{refusing, ending, waiting, making}
 use Rattle.connection_open.proofs.acts.act.Goals as goal
 

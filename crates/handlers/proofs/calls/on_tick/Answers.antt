@@ -1,3 +1,4 @@
+-- `handlers::calls::on_tick` meets its contract. Assumes nothing.
 use Rattle.handlers.specs.Locals.{on_tick}
 use Rattle.handlers.proofs.calls.on_tick.Goals as goal
 

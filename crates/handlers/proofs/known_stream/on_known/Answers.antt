@@ -1,3 +1,4 @@
+-- `handlers::known_stream::on_known` meets its contract. Assumes nothing.
 use borrow.Author.Tests.{lt-ltb, le-ltb, eq-eqb, ne_eqb}
 use Rattle.handlers.specs.Actions.{on_known}
 use Rattle.handlers.proofs.known_stream.on_known.Goals as goal
@@ -19,17 +20,15 @@ returns-then-room-n c =
 pub returns-then-n-eq0 : goal.returns-then-n-eq0
 unfolding on_known
 returns-then-n-eq0 c =
-    let r = c in
-    let b = r.body_length-n.ensures in
+    let b = c.body_length-n.ensures in
     let n = rw b at c.if-room-n.false in
     let z = rw b at c.if-n-eq0.true in
-    rw (r.in-At.is, ← r.receive-received.ensures, r.in-Taken.is, le-ltb _ _ n, eq-eqb _ _ z, c.told-answer.ensures, c.stays-listed.ensures, c.contains.ensures)
+    rw (c.in-At.is, ← c.receive-received.ensures, c.in-Taken.is, le-ltb _ _ n, eq-eqb _ _ z, c.told-answer.ensures, c.stays-listed.ensures, c.contains.ensures)
 
 pub returns : goal.returns
 unfolding on_known
 returns c =
-    let r = c in
-    let b = r.body_length-n.ensures in
+    let b = c.body_length-n.ensures in
     let n = rw b at c.if-room-n.false in
     let z = rw b at c.if-n-eq0.false in
-    rw (r.in-At.is, ← r.receive-received.ensures, r.in-Taken.is, le-ltb _ _ n, ne_eqb _ _ z, c.told-answer.ensures, c.stays-listed.ensures, c.contains.ensures)
+    rw (c.in-At.is, ← c.receive-received.ensures, c.in-Taken.is, le-ltb _ _ n, ne_eqb _ _ z, c.told-answer.ensures, c.stays-listed.ensures, c.contains.ensures)

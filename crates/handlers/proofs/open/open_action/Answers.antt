@@ -1,3 +1,4 @@
+-- `handlers::open::open_action` meets its contract. Assumes nothing.
 use borrow.Author.Tests.{le-leb, lt-leb}
 use Rattle.handlers.specs.Locals.{open_action}
 use Rattle.handlers.proofs.open.open_action.Goals as goal

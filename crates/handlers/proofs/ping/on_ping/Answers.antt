@@ -1,3 +1,4 @@
+-- `handlers::ping::on_ping` meets its contract. Assumes nothing.
 use mathlib.Core.Path.{sym, ◌∙◌}
 use Rattle.handlers.specs.Actions.{on_ping}
 use Rattle.handlers.proofs.ping.on_ping.Goals as goal

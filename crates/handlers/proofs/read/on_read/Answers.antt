@@ -1,3 +1,4 @@
+-- `handlers::read::on_read` meets its contract. Assumes nothing.
 use Rattle.handlers.specs.Locals.{on_read}
 use Rattle.handlers.proofs.read.on_read.Goals as goal
 

@@ -1,3 +1,4 @@
+-- `memory::Memory::end_all` meets its contract. Assumes nothing.
 use Rattle.memory.proofs.Ends.{end-moves}
 use Rattle.memory.proofs.Memory.end_all.Goals as goal
 

@@ -1,3 +1,4 @@
+-- `memory::Memory::free` meets its contract: the slot's blocks are free. Assumes nothing.
 use Rattle.memory.proofs.Changes.{free-moves}
 use Rattle.memory.proofs.Memory.free.Goals as goal
 

@@ -1,3 +1,4 @@
+-- `memory::Memory::make` meets its contract: a free slot has no queue, so the body is pushed to the empty one. Assumes nothing.
 use mathlib.Core.Bool.{true}
 use mathlib.Core.Path.{refl, subst}
 use Rattle.chunks.specs.Store.{Pushes}
@@ -9,8 +10,7 @@ use Rattle.memory.proofs.Memory.make.Goals as goal
 
 pub returns : goal.returns
 returns c valid below free new room =
-    let s = c in
-    let a = s.args in
+    let a = c.args in
     let u = c.push-pushed in
     let w = c.insert in
     rw c.counted.ensures
@@ -18,5 +18,5 @@ returns c valid below free new room =
     a.body.now w.new.table u.new.links u.new.pool u.result c.more.result c.more-unread.result new room
     (subst (λ (q : Queue). Pushes a.links.now a.pool.now a.self.free q a.body.now u.new.links u.new.pool u.result) c.empty.ensures u.ensures)
     u.auto.links u.auto.pool w.ensures
-    (proper_next a.stream _ s.well_formed.1.1.1.1.1.0 true u.result.queue (ranged_pushed u.result _ u.type_inv))
+    (proper_next a.stream _ c.well_formed.1.1.1.1.1.0 true u.result.queue (ranged_pushed u.result _ u.type_inv))
     c.more.ensures c.more-unread.ensures)

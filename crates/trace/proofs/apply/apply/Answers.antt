@@ -1,3 +1,4 @@
+-- `trace::apply::apply` meets its contract: each event's call promises the rules' step. Assumes nothing.
 use mathlib.Core.Path.{subst}
 use Rattle.trace_events.specs.Calls.{Lies}
 use Rattle.trace.proofs.Applying.{tick-applies, frame-applies, open-applies, read-applies, write-applies, close-applies, drop-applies, gone-applies}
