@@ -1,12 +1,16 @@
--- The bytes between two places, moved to the front one by one.
-use mathlib.Core.Path.{◌≡◌, sym, ap, ◌∙◌}
-use mathlib.Core.List.{List, ◌∷◌, ◌++◌}
-use Prim.Native.Nat.{ℕ, suc, ◌+◌, ◌<◌}
+-- The bytes between two places, moved to the front one by one. Assumes nothing.
+use mathlib.Core.Path.{◌≡◌, refl, sym, ap, ◌∙◌}
+use mathlib.Core.Bool.{Bool, true, false, cond}
+use mathlib.Core.List.{List, [], ◌∷◌, ◌++◌}
+use Prim.Native.Nat.{ℕ, suc, ◌+◌, ◌-◌, ◌≤◌, ◌<◌}
 use native.Mathlib.Nat.{add_comm}
 use native.Mathlib.Numerals.{add-one}
 use native.Mathlib.Omega.{arith}
+use lib.Dec.{leb}
 use lib.ListN.{length, get_or, take, drop, set, length-drop}
 use lib.Seq.{length-take-le, take-suc, drop-cons, append_snoc, get_or-append-add, get_or-drop, set-append_seam}
+use borrow.Author.Tests.{le-leb, lt-leb}
+use Rattle.filter.specs.Parts.{kept}
 
 -- one byte more
 module _ (s : List ℕ) (from i : ℕ) (h : from + i < length s) where
@@ -39,3 +43,27 @@ module _ (s : List ℕ) (from i : ℕ) (h : from + i < length s) where
       ∙ sym (append_snoc front (get_or (drop from s) i 0) (drop (suc i) s))
       ∙ ap (λ (l : List ℕ). l ++ drop (suc i) s) (sym (take-suc (drop from s) i 0 n))
       ∙ ap (λ (k : ℕ). take k (drop from s) ++ drop k s) (sym (add-one i))
+
+module _ (s : List ℕ) (from to : ℕ) where
+  -- what was kept, and how many bytes of it
+  abbrev pub Keeps : ℕ → List ℕ → Type 0
+  Keeps r s' = (r ≡ length (kept s from to)) × ((s' ≡ kept s from to ++ drop r s) × (r ≤ length s))
+
+  none_kept : kept s from to ≡ [] → Keeps 0 s
+  none_kept e = (rw e, (rw e, omega arith))
+
+  pub none_before : to < from → Keeps 0 s
+  none_before h = none_kept (go (leb to (length s)))
+    where
+      go : (t : Bool) → cond t (take (to - from) (drop from s)) [] ≡ []
+      go true = let e : to - from ≡ 0 = omega arith in rw e
+      go false = refl
+
+  pub none-there : length s < to → Keeps 0 s
+  none-there h = none_kept (rw (lt-leb to (length s) h))
+
+  pub all-kept : (i : ℕ) (s' : List ℕ) → from ≤ to → to ≤ length s → i ≤ to - from → to - from ≤ i → s' ≡ take i (drop from s) ++ drop i s → Keeps (to - from) s'
+  all-kept i s' f h a b e =
+      let n : i ≡ to - from = omega arith in
+      rw (le-leb to (length s) h)
+      (sym (length-take-le (to - from) (drop from s) (rw length-drop (omega arith))), (e ∙ rw n, omega arith))

@@ -1,2 +1,3 @@
 -- Laws of reading in parts.
 pub mod Keeping
+pub mod Feeding
