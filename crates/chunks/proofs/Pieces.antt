@@ -1,13 +1,7 @@
 -- Laws of a piece: blocks that follow each other in a chain and in the pool, read or written at once. Assumes nothing.
-use mathlib.Core.Path.{◌≡◌, refl, sym, ap, subst, ◌∙◌}
-use mathlib.Core.List.{List, [], ◌++◌}
-use Prim.Native.Nat.{ℕ, suc, ◌+◌, ◌-◌, ◌*◌, ◌/◌, ◌%◌, ◌≤◌, ◌<◌}
-use native.Mathlib.Nat.{zero-add}
-use native.Mathlib.Numerals.{add-one}
-use native.Mathlib.Omega.{arith}
+use Rattle.std.proofs.Common.{◌≡◌, refl, sym, ap, subst, ◌∙◌, List, [], ◌++◌, ℕ, suc, ◌+◌, ◌-◌, ◌*◌, ◌/◌, ◌%◌, min, ◌≤◌, ◌<◌, zero-add, add-one, arith, length, get_or, take, drop, length-take, length-drop, drop-drop, take-add, take_at, length-take-le}
 use native.Mathlib.Decide.{dec_lt}
-use lib.ListN.{length, get_or, take, drop, length-take, length-drop}
-use lib.Seq.{drop-append-add, drop-drop, take-add, take_at, length-take-le}
+use lib.Seq.{drop-append-add, take-length}
 use Rattle.chunks.specs.Chain.{walk, hop, occ, upto}
 use Rattle.chunks.specs.Blocks.{BLOCK, hold, block, bytes, put}
 use Rattle.chunks.specs.Steps.{Lined, Lies, Laid, Gathers, Scatters}
@@ -201,3 +195,56 @@ scatter_next l p p₁ p₂ at used done need last node r body stands link lies h
     let s = stands.full (omega (arith, lies.some, lies.most)) in
     subst (λ (b : List ℕ). Scatters l p at used (used + length body) b p₂) (sym (take-add done m body) ∙ ap (λ (i : ℕ). take i body) k)
     (scatter_piece l p p₁ p₂ at used (used + length body) done 0 (hold r.len) node (take done body) (take m (drop done body)) was same (length-take-le done body (omega arith)) (omega arith) (omega (arith, lies.some)) (piece-starts l at (used + done) need last node r stands link lies) (omega (arith, s.1)) (omega arith) (λ n some long. omega (arith, s.1)) (λ k p q. lies.lined k p (omega (arith, lies.ends))) filled)
+
+-- all of the body but `rest` is put into the chain, up to block `last`
+pub record Written (l p : List ℕ) (at used : ℕ) (body rest : List ℕ) (last : ℕ) (p' : List ℕ) : Type 0 where
+  pub done : ℕ
+  pub total : done + length rest ≡ length body
+  pub left : rest ≡ drop done body
+  pub pooled : length p' ≡ length p
+  pub stands : Stands l at (used + done) (length rest) last
+  pub scatters : Scatters l p at used (used + length body) (take done body) p'
+
+-- the front is put into the first block
+pub written_first : (l p p' : List ℕ) (at used m : ℕ) (body front rest : List ℕ) → used < BLOCK → m ≡ min (length body) (BLOCK - used) → front ≡ take m body → rest ≡ drop m body → length p' ≡ length p
+    → (at * BLOCK + used + length front ≤ length p → p' ≡ put p (at * BLOCK + used) front) → Written l p at used body rest at p'
+written_first l p p' at used m body front rest starts e₁ e₂ e₃ same filled =
+    let a : length front ≡ m = ap length e₂ ∙ length-take-le m body (omega arith) in
+    let b : length rest ≡ length body - m = ap length e₃ ∙ length-drop m body in
+    record {
+      done = m;
+      total = omega arith;
+      left = e₃;
+      pooled = same;
+      stands = rw b (stands_first l at used (length body) m starts (omega arith) (λ h. omega arith));
+      scatters = rw (← e₂) (scatter_first l p p' at used (used + length body) front starts (omega arith) (omega arith) filled);
+    }
+
+-- the part is put right after the last block
+pub written_next : (l p p₁ p₂ : List ℕ) (at used last node : ℕ) (r : Piece) (body rest part more : List ℕ) → Written l p at used body rest last p₁ → node ≡ get_or l last 0 → Lies l node (length rest) r
+    → part ≡ take r.len rest → more ≡ drop r.len rest → length p₂ ≡ length p₁ → (node * BLOCK + 0 + length part ≤ length p₁ → p₂ ≡ put p₁ (node * BLOCK + 0) part)
+    → Written l p at used body more r.last p₂
+written_next l p p₁ p₂ at used last node r body rest part more v link lies e₁ e₂ same filled =
+    let a : length part ≡ r.len = ap length e₁ ∙ length-take-le r.len rest lies.most in
+    let b : length more ≡ length rest - r.len = ap length e₂ ∙ length-drop r.len rest in
+    let s = v.stands.full (omega (arith, lies.some, lies.most)) in
+    let x : used + v.done + r.len ≡ used + (v.done + r.len) = omega arith in
+    let y : take v.done body ++ part ≡ take (v.done + r.len) body = ap (λ (z : List ℕ). take v.done body ++ z) (e₁ ∙ ap (λ (z : List ℕ). take r.len z) v.left) ∙ sym (take-add v.done r.len body) in
+    record {
+      done = v.done + r.len;
+      total = omega (arith, v.total, lies.most);
+      left = e₂ ∙ ap (λ (z : List ℕ). drop r.len z) v.left ∙ drop-drop r.len v.done body;
+      pooled = same ∙ v.pooled;
+      stands = rw (← x, b) (piece-stands l at (used + v.done) (length rest) last node r v.stands link lies);
+      scatters = subst (λ (z : List ℕ). Scatters l p at used (used + length body) z p₂) y
+          (scatter_piece l p p₁ p₂ at used (used + length body) v.done 0 (hold r.len) node (take v.done body) part v.scatters v.pooled (length-take-le v.done body (omega (arith, v.total))) (omega (arith, v.total)) (omega (arith, lies.some)) (piece-starts l at (used + v.done) (length rest) last node r v.stands link lies) (omega (arith, s.1)) (omega arith) (λ n some long. omega (arith, s.1, v.total, lies.most)) (λ k p q. lies.lined k p (omega (arith, lies.ends))) filled);
+    }
+
+-- nothing is left
+pub written_all : (l p p' : List ℕ) (at used last : ℕ) (body rest : List ℕ) → Written l p at used body rest last p' → length rest ≡ 0
+    → (last ≡ hop l at (hold (used + length body) - 1)) × Scatters l p at used (used + length body) body p'
+written_all l p p' at used last body rest v none =
+    let e : v.done ≡ length body = omega (arith, v.total) in (
+      v.stands.here ∙ ap (λ (k : ℕ). hop l at (hold (used + k) - 1)) e,
+      subst (λ (b : List ℕ). Scatters l p at used (used + length body) b p') (ap (λ (k : ℕ). take k body) e ∙ take-length body) v.scatters,
+    )

@@ -1,11 +1,6 @@
 -- What each call on one queue does to all that share the pool. Assumes nothing.
-use mathlib.Core.Path.{◌≡◌, refl, sym, ap, ◌∙◌}
-use mathlib.Core.List.{List, [], ◌∷◌, ◌++◌}
-use Prim.Native.Nat.{ℕ, zero, suc, ◌+◌, ◌*◌, ◌^◌, min, ◌≤◌, ◌<◌}
-use native.Mathlib.Omega.{arith}
+use Rattle.std.proofs.Common.{◌≡◌, refl, sym, ap, ◌∙◌, List, [], ◌∷◌, ◌++◌, ℕ, zero, suc, ◌+◌, ◌*◌, ◌^◌, min, ◌≤◌, ◌<◌, arith, length, get_or, take, drop, set, length-set, take-append-drop, get_or-set_same, get_or-set_other, set-set}
 use native.Mathlib.Decide.{ℕ_discrete}
-use lib.ListN.{length, get_or, take, drop, set, length-set, take-append-drop}
-use lib.Seq.{get_or-set_same, get_or-set_other, set-set}
 use Rattle.chunks.specs.Blocks.{BLOCK, blocks_for}
 use Rattle.chunks.specs.Store.{state, content, none, Kept, Pushes, Pops, Discards, Started}
 use Rattle.chunks.specs.Many.{sizes, unreads, nth, contents, Shared, Turned}

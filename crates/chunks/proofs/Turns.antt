@@ -1,17 +1,11 @@
 -- What a push, a pop and the start do to a state. Assumes nothing.
-use mathlib.Core.Path.{◌≡◌, refl, sym, ap, ◌∙◌, subst}
-use mathlib.Core.List.{List, [], ◌∷◌, ◌++◌, append-nil}
-use Prim.Native.Nat.{ℕ, suc, ◌+◌, ◌-◌, ◌*◌, ◌/◌, ◌%◌, min, ◌≤◌, ◌<◌, ◌^◌}
-use native.Mathlib.Numerals.{add-one}
-use native.Mathlib.Omega.{arith}
+use Rattle.std.proofs.Common.{cond, ltb, ◌≡◌, refl, sym, ap, ◌∙◌, subst, List, [], ◌∷◌, ◌++◌, append-nil, ℕ, suc, ◌+◌, ◌-◌, ◌*◌, ◌/◌, ◌%◌, min, ◌≤◌, ◌<◌, ◌^◌, add-one, arith, lt-ltb, le-ltb, length, get_or, take, drop, length-take, length-drop, take-append-drop, length-take-le, take_all, take-take, take_at, drop_at, get_or-append-add}
 use native.Mathlib.Decide.{dec_lt}
-use borrow.Author.Tests.{lt-ltb, le-ltb}
-use lib.ListN.{length, get_or, take, drop, length-take, length-drop, take-append-drop, get_or-append}
-use lib.Seq.{length-take-le, take_all, take-take, take_at, drop_at, get_or-append-add}
+use lib.ListN.{get_or-append}
 use Rattle.chunks.specs.Chain.{walk, hop, occ, upto}
 use Rattle.chunks.specs.Blocks.{BLOCK, hold, bytes, put}
 use Rattle.chunks.specs.Store.{State, text, content, nodes, frees, none, size, state, Room, Fed, Drawn, Started, Good, Kept}
-use Rattle.chunks.specs.Steps.{Laid, Gathers, Scatters, Passes, next_block}
+use Rattle.chunks.specs.Steps.{Laid, Gathers, Scatters, Passes}
 use Rattle.chunks.specs.declared.Free.{Free}
 use Rattle.chunks.specs.declared.Queue.{Queue}
 use Rattle.chunks.specs.declared.Pushed.{Pushed}
@@ -51,6 +45,10 @@ pub fed_none : (s : State) (b : List ℕ) → length b ≡ 0 → Good s → Fed 
 fed_none s [] e g = record { kept = kept_refl s g; wrote = sym (append-nil (text s)); grew = omega arith; stays = refl }
 fed_none s (x ∷ b) e g = absurd (omega arith)
 
+-- where the next byte goes: the last block where some of it is used, or else the first free one
+abbrev pub next_block : ℕ → ℕ → ℕ → ℕ
+next_block used tail free = cond (ltb 0 used) tail free
+
 -- all blocks are one chain, the queue's first: b goes to where the queue ends, and the blocks up to its last byte are the queue's
 module _ (l p l' : List ℕ) (f all : Free) (q : Queue) (n : ℕ) (good : Good (state l p f q)) (room : Room (state l p f q) n) (some : 0 < n) (gone : Kept (state l p f q) (state l' p all none)) (chain : frees l' all ≡ nodes l q ++ frees l f) where
   start : (used : ℕ) → used ≡ (q.from + q.unread) % BLOCK → hop l' all.head ((q.from + q.unread) / BLOCK) ≡ next_block used q.tail f.head
@@ -84,26 +82,22 @@ module _ (l p l' : List ℕ) (f all : Free) (q : Queue) (n : ℕ) (good : Good (
 le_zero : {a b : ℕ} → a ≤ b → b ≡ 0 → a ≡ 0
 le_zero h e = omega arith
 
-cut_after : (a n m k c : ℕ) → a ≡ n → m ≡ k → k ≤ n → n < 2 ^ 32 → c ≡ (n - k) % (2 ^ 32) → a ≡ m + c
-cut_after a n m k c e₁ e₂ h fits e₃ = omega arith
-
 -- the blocks that e bytes and then n more are in
 ends : (e n used x : ℕ) → used ≡ e % BLOCK → x ≡ e + n → 0 < n
     → (e / BLOCK + (hold (used + n) - 1) ≡ hold x - 1) × (suc (hold x - 1) ≡ hold x) × (e / BLOCK < hold x) × (e / BLOCK * BLOCK + (used + n) ≤ hold x * BLOCK) × (e / BLOCK * BLOCK + used ≡ e) × (e ≤ hold x * BLOCK)
 ends e n used x e₁ e₂ some = (omega arith, omega arith, omega arith, omega arith, omega arith, omega arith)
 
-pub fed : (l p l' p' : List ℕ) (f all : Free) (q : Queue) (b : List ℕ) (used at tail next count u : ℕ) → used ≡ (q.from + q.unread) % BLOCK → at ≡ next_block used q.tail f.head → tail ≡ hop l' at (hold (used + length b) - 1) → next ≡ get_or l' tail 0
-    → count ≡ (f.count + size q - hold (q.from + q.unread + length b)) % (2 ^ 32) → u ≡ (q.unread + length b) % (2 ^ 32) → 0 < length b → length p' ≡ length p → Scatters l' p at used (used + length b) b p'
+pub fed : (l p l' p' : List ℕ) (f all : Free) (q : Queue) (b : List ℕ) (used at tail next count : ℕ) → used ≡ (q.from + q.unread) % BLOCK → at ≡ next_block used q.tail f.head → tail ≡ hop l' at (hold (used + length b) - 1) → next ≡ get_or l' tail 0
+    → count ≡ f.count + size q - hold (q.from + (q.unread + length b)) → 0 < length b → length p' ≡ length p → Scatters l' p at used (used + length b) b p'
     → Good (state l p f q) → Room (state l p f q) (length b) → Kept (state l p f q) (state l' p all none) → frees l' all ≡ nodes l q ++ frees l f
-    → Fed (state l p f q) (state l' p' (record { head = next; count = count }) (record { head = all.head; tail = tail; from = q.from; unread = u })) b
-fed l p l' p' f all q b used at tail next count u e₁ e₂ e₃ e₄ e₅ e₆ some same scatters good room gone chain =
+    → Fed (state l p f q) (state l' p' (record { head = next; count = count }) (record { head = all.head; tail = tail; from = q.from; unread = q.unread + length b })) b
+fed l p l' p' f all q b used at tail next count e₁ e₂ e₃ e₄ e₅ some same scatters good room gone chain =
     let e : ℕ = q.from + q.unread in
-    let grew : u ≡ q.unread + length b = omega arith in
+    let u : ℕ = q.unread + length b in
     let sum : q.from + u ≡ e + length b = omega arith in
     let at_end = ends e (length b) used (q.from + u) e₁ sum some in
     let need : ℕ = hold (q.from + u) in
-    let total : all.count ≡ f.count + size q = omega (arith, gone.total) in
-    let cut : all.count ≡ need + count = cut_after all.count (f.count + size q) need (hold (e + length b)) count total (ap hold sum) room.0 good.fits e₅ in
+    let cut : all.count ≡ need + count = omega (arith, gone.total, room.0) in
     let s = state l p f q in
     let s₁ = state l' p all none in
     let x = bytes p (walk l' all.head need) in
@@ -117,11 +111,10 @@ fed l p l' p' f all q b used at tail next count u e₁ e₂ e₃ e₄ e₅ e₆ 
       kept = kept_trans s s₁ _ gone (rw (last, after) kept₁);
       wrote =
           ap (λ (v : List ℕ). take u (drop q.from v)) (w.0 ∙ ap (λ (i : ℕ). put x i b) at_end.4)
-          ∙ ap (λ (i : ℕ). take i (drop q.from (put x e b))) grew
           ∙ view_push (take e x) b (drop (e + length b) x) (drop e x) q.from q.unread (length-take-le e x size')
           ∙ ap (λ (v : List ℕ). take q.unread (drop q.from v) ++ b) (take-append-drop e x)
           ∙ ap (λ (v : List ℕ). v ++ b) (first l p l' f all q (length b) good room some gone chain need count cut at_end.5);
-      grew = grew;
+      grew = refl;
       stays = refl;
     }
 

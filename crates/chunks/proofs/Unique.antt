@@ -1,10 +1,6 @@
 -- Two outcomes that meet a call's contract give the same bytes, counts and contents. Assumes nothing.
-use mathlib.Core.Path.{◌≡◌, sym, ap, ◌∙◌, subst}
-use mathlib.Core.List.{List, ◌++◌}
-use Prim.Native.Nat.{ℕ, ◌+◌}
-use native.Mathlib.Omega.{arith}
+use Rattle.std.proofs.Common.{◌≡◌, sym, ap, ◌∙◌, subst, List, ◌++◌, ℕ, ◌+◌, arith, length, take, drop, take-append-drop}
 use native.Mathlib.Decide.{dec_lt}
-use lib.ListN.{length, take, drop, take-append-drop}
 use Rattle.chunks.specs.Blocks.{hold}
 use Rattle.chunks.specs.Store.{state, frees, Good, Room, Pushes, Drawn, Pops, Discards, Alike}
 use Rattle.chunks.specs.declared.Free.{Free}

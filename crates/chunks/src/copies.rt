@@ -4,19 +4,20 @@ ghost use Rattle.chunks.specs.Chain.{hop};
 ghost use Rattle.chunks.specs.Blocks.{BLOCK, hold, put};
 ghost use Rattle.chunks.specs.Steps.{PIECE, Lined, Lies, Gathers, Scatters};
 
-use crate::{BLOCK, MOST, hold, least, link};
+use crate::{BLOCK, MOST, hold, link};
 
 // The most bytes that are moved at once.
 const PIECE: usize = 65536;
 
 // Bytes that lie in one piece from the start of a block on: how many, and the last block that they are in.
-#[derive(Clone, Copy)]
+#[derive(Clone, Copy, PartialEq, Eq, Debug)]
 struct Piece {
     len: usize,
     last: u32,
 }
 
-// Copies all of src to the front of dst. By way of an array, which the compiler leaves out: of the two copies it makes one move.
+// Copies all of src to the front of dst.
+// By way of an array, of which the compiler makes one move: straight to dst, a push and pop of 64 B takes a tenth longer.
 fn copy(src: &[u8], dst: &mut [u8])
     requires { (length src.now ≤ PIECE) × (length src.now ≤ length dst.old) }
     ensures { dst.new ≡ src.now ++ drop (length src.now) dst.old }
@@ -32,6 +33,7 @@ fn fill(pool: &mut [u8], node: u32, used: usize, part: &[u8])
     requires { used + length part.now ≤ PIECE }
     ensures { node * BLOCK + used + length part.now ≤ length pool.old → pool.new ≡ put pool.old (node * BLOCK + used) part.now }
 {
+    // Through `get_mut` a proof knows the pool's length afterwards, and no byte.
     let a = (node as usize) * BLOCK + used;
     let e = a + part.len();
     if e <= pool.len() {
@@ -45,9 +47,8 @@ fn drain(pool: &[u8], node: u32, from: usize, out: &mut [u8])
     ensures { node * BLOCK + from + length out.old ≤ length pool.now → out.new ≡ take (length out.old) (drop (node * BLOCK + from) pool.now) }
 {
     let a = (node as usize) * BLOCK + from;
-    let e = a + out.len();
-    if e <= pool.len() {
-        copy(&pool[a..e], out);
+    if let Some(part) = pool.get(a..a + out.len()) {
+        copy(part, out);
     }
 }
 
@@ -56,18 +57,10 @@ fn run(links: &[u32], at: u32, most: usize) -> u32
     requires { (0 < most) × (most ≤ PIECE) }
     ensures { (at ≤ result) × (result < at + most) × Lined links.now at result }
 {
-    let a = at as usize;
-    let stop = least(a + (most - 1), least(links.len(), MOST));
-    let mut last = a;
-    while last < stop {
-        let after = last + 1;
-        let next = links[last];
-        if (next as usize) != after {
-            return last as u32;
-        }
-        last = after;
-    }
-    last as u32
+    let stop = (at as usize + (most - 1)).min(links.len()).min(MOST) as u32;
+    (at..stop)
+        .find(|&k| links[k as usize] != k + 1)
+        .unwrap_or(stop.max(at))
 }
 
 // The bytes, at most `need`, that lie in one piece from the start of the block on.
@@ -81,10 +74,10 @@ fn piece_at(links: &[u32], at: u32, need: usize) -> Piece
             last: at,
         };
     }
-    let last = run(links, at, hold(least(need, PIECE)));
+    let last = run(links, at, hold(need.min(PIECE)));
     let room = (((last - at) as usize) + 1) * BLOCK;
     Piece {
-        len: least(room, need),
+        len: need.min(room),
         last,
     }
 }
@@ -94,8 +87,9 @@ pub(crate) fn gather(links: &[u32], pool: &[u8], at: u32, from: usize, out: &mut
     requires { from < BLOCK }
     ensures { Gathers links.now pool.now at from (from + length out.old) (length out.old) out.new }
 {
+    // Counted by `got`: after a loop that takes parts off a `&mut [u8]` a proof knows no byte of the whole.
     let n = out.len();
-    let mut got = least(BLOCK - from, n);
+    let mut got = n.min(BLOCK - from);
     drain(pool, at, from, &mut out[..got]);
     let mut last = at;
     while got < n {
@@ -114,17 +108,16 @@ pub(crate) fn scatter(links: &[u32], pool: &mut [u8], at: u32, used: usize, body
     ensures value { result ≡ hop links.now at (hold (used + length body.now) - 1) }
     ensures scatters { Scatters links.now pool.old at used (used + length body.now) body.now pool.new }
 {
-    let n = body.len();
-    let mut done = least(BLOCK - used, n);
-    fill(pool, at, used, &body[..done]);
+    let (part, mut rest) = body.split_at(body.len().min(BLOCK - used));
+    fill(pool, at, used, part);
     let mut last = at;
-    while done < n {
+    while !rest.is_empty() {
         let node = link(links, last);
-        let p = piece_at(links, node, n - done);
-        let e = done + p.len;
-        fill(pool, node, 0, &body[done..e]);
+        let p = piece_at(links, node, rest.len());
+        let (part, more) = rest.split_at(p.len);
+        fill(pool, node, 0, part);
         last = p.last;
-        done = e;
+        rest = more;
     }
     last
 }

@@ -1,8 +1,5 @@
 -- What ending leaves of a valid connection. Assumes nothing.
-use mathlib.Core.Path.{◌≡◌, refl, sym, ap, ◌∙◌}
-use mathlib.Core.Bool.{true, false}
-use mathlib.Core.List.{List, map}
-use Prim.Native.Nat.{ℕ}
+use Rattle.std.proofs.Common.{◌≡◌, refl, sym, ap, ◌∙◌, true, false, List, map, ℕ}
 use lib.ListN.{get_or-map}
 use Rattle.rules.specs.State.{Entry, entry, vacant}
 use Rattle.rules.specs.Ending.{end, end_entry}

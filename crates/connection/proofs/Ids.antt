@@ -1,9 +1,5 @@
 -- Own ids in the table stay below the next one where one slot changes. Assumes nothing.
-use mathlib.Core.Path.{◌≡◌, sym, ◌∙◌}
-use mathlib.Core.Bool.{Bool, true, false}
-use mathlib.Core.List.{List, [], ◌∷◌}
-use Prim.Native.Nat.{ℕ, zero, suc, ◌<◌}
-use lib.ListN.{set}
+use Rattle.std.proofs.Common.{◌≡◌, sym, ◌∙◌, Bool, true, false, List, [], ◌∷◌, ℕ, zero, suc, ◌<◌, set}
 use Rattle.stream.specs.declared.Stream.{Stream}
 use Rattle.rules.specs.State.{Entry, entry, is_own}
 use Rattle.rules.specs.declared.Mode.{Mode}

@@ -1,8 +1,5 @@
 -- What a connection is that was built anew over memory that became other slots. Assumes nothing.
-use mathlib.Core.Path.{◌≡◌, refl}
-use mathlib.Core.Bool.{Bool, true}
-use mathlib.Core.List.{List}
-use Prim.Native.Nat.{ℕ}
+use Rattle.std.proofs.Common.{◌≡◌, refl, Bool, true, List, ℕ}
 use Rattle.rtt.specs.declared.Rtt.{Rtt}
 use Rattle.rules.specs.Replies.{Outcome}
 use Rattle.rules.specs.State.{Entry, Conn, is_own, with_pings, with_open_wait}

@@ -1,11 +1,7 @@
 -- How a call comes to its promise: by a wrong size, by a refusal, or by a rule that is handled. Assumes nothing.
-use mathlib.Core.Path.{◌≡◌, refl, sym, ap, ◌∙◌}
-use mathlib.Core.Bool.{Bool, true, false}
-use mathlib.Core.List.{List}
-use Prim.Native.Nat.{ℕ}
-use lib.ListN.{length}
+use Rattle.std.proofs.Common.{◌≡◌, refl, sym, ap, ◌∙◌, Bool, true, false, List, ℕ, length}
 use Rattle.rules.specs.State.{Conn}
-use Rattle.rules.specs.Ending.{Result, refuse}
+use Rattle.rules.specs.Ending.{Effect, refuse}
 use Rattle.rules.specs.Replies.{leaves_all, may_give, count_of}
 use Rattle.rules.specs.Step.{Call, step, read}
 use Rattle.rules.specs.declared.Reply.{Reply}
@@ -46,7 +42,7 @@ pub refused-gives : (c : Connection) (r : Reply) (s : List ℕ) → Gives (refus
 refused-gives c r s = record { header = refl; silent = λ e. refl }
 
 -- a rule that is another from a valid state
-pub same_handles : (c : Connection) (t l p : List ℕ) (rule rule' : Conn → Result) (d : Done) (t' l' p' : List ℕ)
+pub same_handles : (c : Connection) (t l p : List ℕ) (rule rule' : Conn → Effect) (d : Done) (t' l' p' : List ℕ)
     → (Valid c t l p → rule' (abs_of c t l p) ≡ rule (abs_of c t l p)) → Handles rule c t l p d t' l' p' → Handles rule' c t l p d t' l' p'
 same_handles c t l p rule rule' d t' l' p' same h = record {
   steps = λ v. rw (same v) (h.steps v);
@@ -55,7 +51,7 @@ same_handles c t l p rule rule' d t' l' p' same h = record {
 }
 
 -- what is done is no refusal
-pub acted : (c : Connection) (t l p : List ℕ) (rule : Conn → Result) (d : Done) (t' l' p' : List ℕ) → may_give d.answer.reply ≡ true
+pub acted : (c : Connection) (t l p : List ℕ) (rule : Conn → Effect) (d : Done) (t' l' p' : List ℕ) → may_give d.answer.reply ≡ true
     → (Valid c t l p → Follows c t l p (rule (abs_of c t l p)) d t' l' p') → Handles rule c t l p d t' l' p'
 acted c t l p rule d t' l' p' given f = record {
   steps = f;
@@ -84,7 +80,7 @@ module _ (c : Connection) (t l p : List ℕ) where
     }
 
     -- a rule that is handled, where it is the call's
-    pub promised : sized ≡ true → (rule : Conn → Result) (d : Done) (t' l' p' : List ℕ) → (Valid c t l p → step (abs_of c t l p) call ≡ rule (abs_of c t l p))
+    pub promised : sized ≡ true → (rule : Conn → Effect) (d : Done) (t' l' p' : List ℕ) → (Valid c t l p → step (abs_of c t l p) call ≡ rule (abs_of c t l p))
         → Handles rule c t l p d t' l' p' → Promised sized c t l p call d t' l' p'
     promised e rule d t' l' p' same h = record {
       steps = λ s v. rw (same v) (h.steps v);

@@ -1,9 +1,6 @@
 -- Two outcomes that meet one call's promise are the same. Assumes nothing.
-use mathlib.Core.Path.{◌≡◌, sym, ap, ◌∙◌}
-use mathlib.Core.Bool.{Bool, true}
-use mathlib.Core.List.{List}
-use Prim.Native.Nat.{ℕ, ◌<◌}
-use Rattle.rules.specs.Ending.{Result}
+use Rattle.std.proofs.Common.{◌≡◌, sym, ap, ◌∙◌, Bool, true, List, ℕ, ◌<◌}
+use Rattle.rules.specs.Ending.{Effect}
 use Rattle.rules.specs.Replies.{Outcome, leaves_all}
 use Rattle.rules.specs.State.{Conn}
 use Rattle.rules.specs.Step.{Call, step}
@@ -71,7 +68,7 @@ module _ (c : Connection) (t l p : List ℕ) (v : Valid c t l p) (c' : Connectio
 
 -- ---- outcomes of one rule
 
-module _ (c : Connection) (t l p : List ℕ) (rule : Result) (d : Done) (t₁ l₁ p₁ : List ℕ) (e : Done) (t₂ l₂ p₂ : List ℕ) where
+module _ (c : Connection) (t l p : List ℕ) (rule : Effect) (d : Done) (t₁ l₁ p₁ : List ℕ) (e : Done) (t₂ l₂ p₂ : List ℕ) where
   follows_same : Follows c t l p rule d t₁ l₁ p₁ → Follows c t l p rule e t₂ l₂ p₂ → Same d t₁ l₁ p₁ e t₂ l₂ p₂
   follows_same x y = record {
     answer = answers_same d.answer e.answer rule.outcome x.says y.says;

@@ -1,5 +1,5 @@
 -- A connection built anew, what is left of one by a ping, and what stands before a call's rule.
-use Rattle.std.specs.Prelude.{◌≡◌, Bool, true, false, cond, List, ℕ, ◌<◌, ltb, leb}
+use Rattle.std.specs.Prelude.{◌≡◌, Bool, true, false, cond, List, ℕ, ◌<◌, ltb, leb, Result, Ok, Err, ⊤}
 use Rattle.rtt.specs.declared.Rtt.{Rtt}
 use Rattle.rules.specs.Settings.{last_time}
 use Rattle.rules.specs.declared.Reply.TheVariants as reply
@@ -10,10 +10,7 @@ use Rattle.handlers.specs.declared.PingStep.{PingStep}
 use Rattle.memory.specs.declared.Memory.{Memory}
 use Rattle.connection.specs.declared.Connection.{Connection}
 use Rattle.connection.specs.declared.Done.{Done}
-use Rattle.connection.specs.declared.Gate.{Gate}
-use Rattle.connection.specs.declared.Gate.TheVariants as gate
-use Rattle.connection.specs.declared.Handle.{Handle}
-use Rattle.connection.specs.declared.Handle.TheVariants.{Held, Refused}
+use Rattle.rules.specs.declared.Reply.{Reply}
 
 -- the connection with these parts; its settings stay
 abbrev pub rebuilt : Connection → Rtt → Bool → ℕ → Bool → ℕ → Memory → Connection
@@ -37,23 +34,27 @@ answered c a = record { connection = c; answer = a }
 abbrev pub pinged : Connection → PingStep → Done
 pinged c q = answered (rebuilt c q.rtt c.ended c.next_id c.open_wait c.growth c.memory) q.answer
 
+-- a call goes on to its rule
+abbrev pub goes_on : Result ⊤ Reply
+goes_on = Ok tt
+
 -- 14, "tested first in every call"; then "10, 5 (ended)": a time above 2^62-1, and next a connection that has ended
-abbrev pub gate_of : Bool → Bool → ℕ → Gate
+abbrev pub gate_of : Bool → Bool → ℕ → Result ⊤ Reply
 gate_of sized ended now =
     cond sized
-    (cond (ltb last_time now) (gate.Shut reply.Time) (cond ended (gate.Shut reply.Closed) gate.Open))
-    (gate.Shut reply.Size)
+    (cond (ltb last_time now) (Err reply.Time) (cond ended (Err reply.Closed) goes_on))
+    (Err reply.Size)
 
 -- "handle not held"
-abbrev pub held_in : ℕ → List ℕ → ℕ → Handle
-held_in k t i = cond (leb k i) (Refused reply.NotHeld) (cond (row_at t k i).held (Held (row_at t k i)) (Refused reply.NotHeld))
+abbrev pub held_in : ℕ → List ℕ → ℕ → Result Row Reply
+held_in k t i = cond (leb k i) (Err reply.NotHeld) (cond (row_at t k i).held (Ok (row_at t k i)) (Err reply.NotHeld))
 
 -- "Others: 10, 9, then the rules": an ended connection refuses no call on a handle (B7)
-abbrev pub behind : Gate → Handle → Handle
-behind (gate.Shut r) h = Refused r
-behind gate.Open h = h
+abbrev pub behind : Result ⊤ Reply → Result Row Reply → Result Row Reply
+behind (Err r) h = Err r
+behind (Ok _) h = h
 
-abbrev pub handle_of : Bool → ℕ → List ℕ → ℕ → ℕ → Handle
+abbrev pub handle_of : Bool → ℕ → List ℕ → ℕ → ℕ → Result Row Reply
 handle_of sized k t i now = behind (gate_of sized false now) (held_in k t i)
 
 -- slot i is held, and its row is `row`

@@ -1,15 +1,11 @@
 -- What a call promises, on every input and from a valid state.
-use Rattle.std.specs.Prelude.{◌≡◌, Bool, true, false, cond, List, ◌++◌, ℕ, length, drop, eqb}
+use Rattle.std.specs.Prelude.{◌≡◌, Bool, true, false, cond, List, ◌++◌, ℕ, length, drop, eqb, Option, Some, None}
 use Rattle.frame.specs.Wire.{written}
-use Rattle.stream.specs.declared.Sent.{Sent}
-use Rattle.stream.specs.declared.Sent.TheVariants.{Frame, Nothing}
 use Rattle.rules.specs.declared.Reply.{Reply}
 use Rattle.rules.specs.declared.Reply.TheVariants as reply
-use Rattle.rules.specs.declared.Which.TheVariants as which
-use Rattle.rules.specs.declared.Value.TheVariants as value
 use Rattle.rules.specs.Replies.{Outcome, leaves_all, may_give}
 use Rattle.rules.specs.State.{Conn}
-use Rattle.rules.specs.Ending.{Result, end}
+use Rattle.rules.specs.Ending.{Effect, end}
 use Rattle.rules.specs.Step.{Call, step}
 use Rattle.handlers.specs.declared.Answer.{Answer}
 use Rattle.memory.specs.Counts.{fits}
@@ -18,19 +14,20 @@ use Rattle.connection.specs.Abstract.{abs_of, Valid}
 use Rattle.connection.specs.Parts.{answered}
 use Rattle.connection.specs.declared.Connection.{Connection}
 use Rattle.connection.specs.declared.Done.{Done}
+use Rattle.frame.specs.declared.header.Header.{Header}
 
 -- the twelve lent bytes: a header that is given, else as they were
-abbrev pub sent_after : Sent → List ℕ → List ℕ
-sent_after (Frame h) s = written h s
-sent_after Nothing s = s
+abbrev pub sent_after : Option Header → List ℕ → List ℕ
+sent_after (Some h) s = written h s
+sent_after None s = s
 
 -- an answer of the reply alone; `all` where the connection ended by it
 abbrev pub bare_answer : Reply → Bool → Answer
 bare_answer r all = record {
   reply = r;
-  slot = which.None;
-  value = value.None;
-  sent = Nothing;
+  slot = None;
+  value = None;
+  sent = None;
   wakes = record { reader = false; writer = false; opener = false; all = all };
 }
 
@@ -48,7 +45,7 @@ out_after bytes out = bytes ++ drop (length bytes) out
 
 -- "replies but 0, 1 and 2 give neither": no header here; of bytes read the promise of a read speaks
 abbrev pub Silent : Done → Type 0
-Silent d = may_give d.answer.reply ≡ false → d.answer.sent ≡ Nothing
+Silent d = may_give d.answer.reply ≡ false → d.answer.sent ≡ None
 
 -- "Lent output changes only in the bytes read and in the 12 of a header given"
 pub record Gives (d : Done) (s s' : List ℕ) : Type 0 where
@@ -64,7 +61,7 @@ pub record Says (a : Answer) (o : Outcome) : Type 0 where
   pub wakes : a.wakes ≡ o.wakes
 
 -- valid again, the state the rule's, each queue past the bytes read of it, and the answer the rule's
-pub record Follows (c : Connection) (t l p : List ℕ) (rule : Result) (d : Done) (t' l' p' : List ℕ) : Type 0 where
+pub record Follows (c : Connection) (t l p : List ℕ) (rule : Effect) (d : Done) (t' l' p' : List ℕ) : Type 0 where
   pub valid : Valid d.connection t' l' p'
   pub after : abs_of d.connection t' l' p' ≡ rule.after
   pub advances : Advances c.memory t d.connection.memory t'
@@ -72,7 +69,7 @@ pub record Follows (c : Connection) (t l p : List ℕ) (rule : Result) (d : Done
 
 -- A rule is handled: from a valid state the result is the rule's; a refusal leaves all as it was; and a header is given only
 -- where the reply may give one.
-pub record Handles (rule : Conn → Result) (c : Connection) (t l p : List ℕ) (d : Done) (t' l' p' : List ℕ) : Type 0 where
+pub record Handles (rule : Conn → Effect) (c : Connection) (t l p : List ℕ) (d : Done) (t' l' p' : List ℕ) : Type 0 where
   pub steps : Valid c t l p → Follows c t l p (rule (abs_of c t l p)) d t' l' p'
   pub refuses : leaves_all d.answer.reply ≡ true → (d.connection ≡ c) × (t' ≡ t) × (l' ≡ l) × (p' ≡ p)
   pub silent : Silent d

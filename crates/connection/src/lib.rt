@@ -6,16 +6,15 @@ ghost use Rattle.connection.specs.Parts.{pinged, gate_of, held_in, handle_of};
 ghost use Rattle.connection.specs.Promises.{sized, bare_answer, refused, sent_after, Over};
 
 use frame::header;
-use frame::header::HEADER_SIZE;
+use frame::header::{HEADER_SIZE, Header};
 use handlers::{Answer, PingStep};
 use memory::Memory;
 use rtt::Rtt;
-use rules::{LAST_TIME, Mode, Reply, Slot, Value, Which, Woke};
-use stream::Sent;
+use rules::{LAST_TIME, Mode, NOBODY, Reply, Slot, Woke};
 use table::row::Row;
 
 // The settings, but for K and P, which stand with the memory.
-#[derive(Clone, Copy)]
+#[derive(Clone, Copy, Debug, PartialEq, Eq)]
 pub struct Terms {
     pub mode: Mode,
     pub max_num_streams: u32,
@@ -28,7 +27,7 @@ pub struct Terms {
 }
 
 // The marks come last: a gap before a wide field would be copied by pieces at every call.
-#[derive(Clone, Copy)]
+#[derive(Clone, Copy, Debug, PartialEq, Eq)]
 pub struct Connection {
     pub config: Terms,
     pub rtt: Rtt,
@@ -40,46 +39,33 @@ pub struct Connection {
 }
 
 // The connection after a call, and what the call answers.
-#[derive(Clone, Copy)]
+#[derive(Clone, Copy, Debug, PartialEq, Eq)]
 pub struct Done {
     pub connection: Connection,
     pub answer: Answer,
 }
 
-// Whether a call goes on to its rule, or why not.
-#[derive(Clone, Copy)]
-pub enum Gate {
-    Open,
-    Shut(Reply),
-}
-
-// What a handle stands for: a held slot's row, or why there is none.
-#[derive(Clone, Copy)]
-pub enum Handle {
-    Held(Row),
-    Refused(Reply),
+// The memory after what a call does to it, and what the call answers.
+#[derive(Clone, Copy, Debug, PartialEq, Eq)]
+pub struct Applied {
+    pub memory: Memory,
+    pub answer: Answer,
 }
 
 // Whether all that is lent has its size, with twelve bytes for a header.
 pub fn sized(c: Connection, table: usize, links: usize, pool: usize, sent: usize) -> bool
     ensures { result ≡ sized c table links pool sent }
 {
-    let memory = c.memory;
-    if memory::fits(memory.slots, memory.pool, table, links, pool) {
-        return sent == HEADER_SIZE;
-    }
-    false
+    memory::fits(c.memory.slots, c.memory.pool, table, links, pool) && sent == HEADER_SIZE
 }
 
 // The connection with the pings that a tick or a Ping leaves, and what it answers.
 pub fn pinged(c: Connection, step: PingStep) -> Done
     ensures { result ≡ pinged c step }
 {
-    let rtt = step.rtt;
-    let answer = step.answer;
     Done {
-        connection: Connection { rtt, ..c },
-        answer,
+        connection: Connection { rtt: step.rtt, ..c },
+        answer: step.answer,
     }
 }
 
@@ -89,15 +75,10 @@ pub fn bare(reply: Reply, all: bool) -> Answer
 {
     Answer {
         reply,
-        slot: Which::None,
-        value: Value::None,
-        sent: Sent::Nothing,
-        wakes: Woke {
-            reader: false,
-            writer: false,
-            opener: false,
-            all,
-        },
+        slot: None,
+        value: None,
+        sent: None,
+        wakes: Woke { all, ..NOBODY },
     }
 }
 
@@ -105,64 +86,57 @@ pub fn bare(reply: Reply, all: bool) -> Answer
 pub fn refuse(c: Connection, reply: Reply) -> Done
     ensures { result ≡ refused c reply }
 {
-    let answer = bare(reply, false);
     Done {
         connection: c,
-        answer,
+        answer: bare(reply, false),
     }
 }
 
 // Refuses lent memory of a wrong size, then a time above 2^62-1, then an ended connection.
-pub fn judge(fits: bool, ended: bool, time: u64) -> Gate
+pub fn judge(fits: bool, ended: bool, time: u64) -> Result<(), Reply>
     ensures { result ≡ gate_of fits ended time }
 {
     if !fits {
-        return Gate::Shut(Reply::Size);
+        return Err(Reply::Size);
     }
     if LAST_TIME < time {
-        return Gate::Shut(Reply::Time);
+        return Err(Reply::Time);
     }
     if ended {
-        return Gate::Shut(Reply::Closed);
+        return Err(Reply::Closed);
     }
-    Gate::Open
+    Ok(())
 }
 
 // The row of a slot that is held.
-fn held(k: u32, table: &[u64], slot: Slot) -> Handle
+fn held(k: u32, table: &[u64], slot: Slot) -> Result<Row, Reply>
     ensures { result ≡ held_in k table.now slot.0 }
 {
-    let i = slot.0;
-    if k <= i {
-        return Handle::Refused(Reply::NotHeld);
+    if k <= slot.0 {
+        return Err(Reply::NotHeld);
     }
     let row = table::load(table, k, slot);
     if row.held {
-        return Handle::Held(row);
+        Ok(row)
+    } else {
+        Err(Reply::NotHeld)
     }
-    Handle::Refused(Reply::NotHeld)
 }
 
 // The row of a handle that is held, for a call with lent memory of its size and in time. An ended connection has its handles still.
-pub fn held_row(k: u32, table: &[u64], fits: bool, slot: Slot, time: u64) -> Handle
+pub fn held_row(k: u32, table: &[u64], fits: bool, slot: Slot, time: u64) -> Result<Row, Reply>
     ensures { result ≡ handle_of fits k table.now slot.0 time }
 {
-    let gate = judge(fits, false, time);
-    match gate {
-        Gate::Shut(reply) => Handle::Refused(reply),
-        Gate::Open => held(k, table, slot),
-    }
+    judge(fits, false, time)?;
+    held(k, table, slot)
 }
 
 // Writes the header that an answer gives into the twelve lent bytes, and leaves them as they were where it gives none.
-pub fn put(sent: &mut [u8], frame: Sent)
+pub fn put(sent: &mut [u8], frame: Option<Header>)
     ensures { sent.new ≡ sent_after frame sent.old }
 {
-    match frame {
-        Sent::Frame(h) => {
-            header::encode(h, sent);
-        }
-        Sent::Nothing => {}
+    if let Some(header) = frame {
+        let _ = header::encode(header, sent);
     }
 }
 
@@ -171,7 +145,6 @@ pub fn drop_all_streams(c: Connection, table: &mut [u64], reply: Reply) -> Done
     ensures { Over c table.old reply result table.new }
 {
     let memory = c.memory.end_all(table);
-    let answer = bare(reply, true);
     Done {
         connection: Connection {
             ended: true,
@@ -179,6 +152,6 @@ pub fn drop_all_streams(c: Connection, table: &mut [u64], reply: Reply) -> Done
             memory,
             ..c
         },
-        answer,
+        answer: bare(reply, true),
     }
 }

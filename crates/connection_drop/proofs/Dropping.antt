@@ -1,10 +1,5 @@
 -- What a drop leaves of a valid connection. Assumes nothing.
-use mathlib.Core.Path.{◌≡◌, refl, sym, ap, ◌∙◌}
-use mathlib.Core.Bool.{Bool, true, false}
-use mathlib.Core.List.{List, []}
-use Prim.Native.Nat.{ℕ}
-use native.Mathlib.Omega.{arith}
-use lib.ListN.{set}
+use Rattle.std.proofs.Common.{◌≡◌, refl, sym, ap, ◌∙◌, Bool, true, false, List, [], ℕ, arith, set, Option, Some, None, Ok}
 use Rattle.flow_control.specs.Windows.{growth_returned}
 use Rattle.stream.specs.declared.Stream.{Stream}
 use Rattle.rules.specs.Replies.{may_give}
@@ -14,8 +9,6 @@ use Rattle.rules.specs.Ending.{gives}
 use Rattle.rules.specs.Calls.{drop_at, drop_rules}
 use Rattle.rules.specs.Step.{step, drop}
 use Rattle.rules.specs.declared.Slot.{Slot}
-use Rattle.rules.specs.declared.Which.{Which}
-use Rattle.rules.specs.declared.Which.TheVariants as which
 use Rattle.table.specs.Table.{row_at, Finds}
 use Rattle.table.specs.declared.row.Row.{Row}
 use Rattle.handlers.specs.Perform.{outcome_of}
@@ -33,22 +26,21 @@ use Rattle.connection.specs.Parts.{rebuilt, answered, handle_of, Holds}
 use Rattle.connection.specs.Promises.{sent_after, Gives, Follows, Promised}
 use Rattle.connection.specs.declared.Connection.{Connection}
 use Rattle.connection.specs.declared.Done.{Done}
-use Rattle.connection.specs.declared.Handle.TheVariants.{Held}
 use Rattle.connection.proofs.Ids.{Below, below_out}
 use Rattle.connection.proofs.Moving.{becomes-follows, told}
 use Rattle.connection.proofs.Promises.{acted, promised}
 use Rattle.connection.proofs.Tests.{handle-held, handle_holds, held-entry}
 use Rattle.connection_drop.specs.Parts.{Removes, Releases}
-use Rattle.connection_drop.specs.declared.Removed.{Removed}
+use Rattle.connection.specs.declared.Applied.{Applied}
 
 -- the answer is done, on any contents
-removed_gives : (m : Memory) (t : List ℕ) (i : Slot) (f : Which) (r : Removed) (t' : List ℕ) → Removes m t i f r t' → may_give r.answer.reply ≡ true
-removed_gives m t i (which.At j) r t' w = ap (λ (o : Answer). may_give o.reply) w.0
-removed_gives m t i which.None r t' w = ap (λ (x : Removed). may_give x.answer.reply) w.0
+removed_gives : (m : Memory) (t : List ℕ) (i : Slot) (f : Option Slot) (r : Applied) (t' : List ℕ) → Removes m t i f r t' → may_give r.answer.reply ≡ true
+removed_gives m t i (Some j) r t' w = ap (λ (o : Answer). may_give o.reply) w.0
+removed_gives m t i None r t' w = ap (λ (x : Applied). may_give x.answer.reply) w.0
 
 -- ---- the rules of a drop
 
-module _ (c : Connection) (t l : List ℕ) (i : Slot) (row : Row) (r : Removed) (t₁ : List ℕ) (m₂ : Memory) (t₂ l₂ : List ℕ)
+module _ (c : Connection) (t l : List ℕ) (i : Slot) (row : Row) (r : Applied) (t₁ : List ℕ) (m₂ : Memory) (t₂ l₂ : List ℕ)
     (frees : Frees r.memory t₁ l i.0 (row_at t₁ r.memory.slots i.0) m₂ t₂ l₂)
   where
     abbrev growth : ℕ
@@ -81,7 +73,7 @@ module _ (c : Connection) (t l : List ℕ) (i : Slot) (row : Row) (r : Removed) 
       unfolding drop_at
       place-follows nowhere q w =
           let f : Frees c.memory t l i.0 (row_at t c.memory.slots i.0) m₂ t₂ l₂ =
-          rw (ap (λ (x : Removed). x.memory) w.0, w.1) at frees in
+          rw (ap (λ (x : Applied). x.memory) w.0, w.1) at frees in
           rw w.0 (leaves _ (set es i.0 vacant) (f p refl v.memory h.below still-held) (without i.0 vacant es refl v.fresh.below))
       place-follows (at j) q w =
           let x = find_at c.memory t l p v.memory row.stream.id j q in
@@ -96,7 +88,7 @@ module _ (c : Connection) (t l : List ℕ) (i : Slot) (row : Row) (r : Removed) 
           rw (w.0, s, x.2)
           (leaves _ (set (set es j e) i.0 vacant) (rw a.slots at b) (without i.0 vacant (set es j e) refl (without j e es refl v.fresh.below)))
 
-      released-follows : (f : Which) → Finds t c.memory.slots row.stream.id f → Removes c.memory t i f r t₁
+      released-follows : (f : Option Slot) → Finds t c.memory.slots row.stream.id f → Removes c.memory t i f r t₁
           → Follows c t l p (drop_rules (abs_of c t l p) i.0 (entry es i.0)) (result r.answer) t₂ l₂ p
       unfolding drop_rules
       released-follows f finds w =
@@ -104,7 +96,7 @@ module _ (c : Connection) (t l : List ℕ) (i : Slot) (row : Row) (r : Removed) 
           let s : (entry es i.0).stream ≡ row.stream = ap (λ (x : Entry). x.stream) (held-entry c t l p i.0 row h v) in
           rw s (place-follows (find es row.stream.id) refl (rw e at w))
 
-    pub release-handles : (g : ℕ) → g ≡ growth_returned c.growth row.stream.flow → (f : Which) → Finds t c.memory.slots row.stream.id f → Removes c.memory t i f r t₁
+    pub release-handles : (g : ℕ) → g ≡ growth_returned c.growth row.stream.flow → (f : Option Slot) → Finds t c.memory.slots row.stream.id f → Removes c.memory t i f r t₁
         → Releases c t l i row (answered (rebuilt c c.rtt c.ended c.next_id c.open_wait g m₂) r.answer) t₂ l₂
     release-handles g back f finds w h p =
         rw back
@@ -114,7 +106,7 @@ module _ (c : Connection) (t l : List ℕ) (i : Slot) (row : Row) (r : Removed) 
 -- ---- the promise
 
 -- a drop of a held handle, by its rules
-pub drop_promised : (sized : Bool) (c : Connection) (t l : List ℕ) (now : ℕ) (i : Slot) (row : Row) → handle_of sized c.memory.slots t i.0 now ≡ Held row
+pub drop_promised : (sized : Bool) (c : Connection) (t l : List ℕ) (now : ℕ) (i : Slot) (row : Row) → handle_of sized c.memory.slots t i.0 now ≡ Ok row
     → (d : Done) (t' l' u u' : List ℕ) → Releases c t l i row d t' l' → u' ≡ sent_after d.answer.sent u
     → ((p : List ℕ) → Promised sized c t l p (drop now i.0) d t' l' p) × Gives d u u'
 unfolding step

@@ -1,13 +1,9 @@
 -- What the parts of a drop do.
-use Rattle.std.specs.Prelude.{◌≡◌, false, List, ℕ}
-use Rattle.stream.specs.declared.Sent.TheVariants.{Nothing}
+use Rattle.std.specs.Prelude.{◌≡◌, false, List, ℕ, Option, Some, None}
 use Rattle.rules.specs.State.{entry}
 use Rattle.rules.specs.Calls.{drop_rules}
 use Rattle.rules.specs.declared.Slot.{Slot}
 use Rattle.rules.specs.declared.Reply.TheVariants as reply
-use Rattle.rules.specs.declared.Value.TheVariants as value
-use Rattle.rules.specs.declared.Which.{Which}
-use Rattle.rules.specs.declared.Which.TheVariants as which
 use Rattle.table.specs.Table.{row_at}
 use Rattle.table.specs.declared.row.Row.{Row}
 use Rattle.handlers.specs.Locals.{slot_answer, on_drop}
@@ -17,12 +13,12 @@ use Rattle.connection.specs.Parts.{Holds}
 use Rattle.connection.specs.Promises.{Handles}
 use Rattle.connection.specs.declared.Connection.{Connection}
 use Rattle.connection.specs.declared.Done.{Done}
-use Rattle.connection_drop.specs.declared.Removed.{Removed}
+use Rattle.connection.specs.declared.Applied.{Applied}
 
 -- 01: "removes from the table whichever stream has that id, making it Closed": the one found, for the handle at slot i
-abbrev pub Removes : Memory → List ℕ → Slot → Which → Removed → List ℕ → Type 0
-Removes m t i which.None r t' = (r ≡ record { memory = m; answer = slot_answer i reply.Done value.None Nothing }) × (t' ≡ t)
-Removes m t i (which.At j) r t' =
+abbrev pub Removes : Memory → List ℕ → Slot → Option Slot → Applied → List ℕ → Type 0
+Removes m t i None r t' = (r ≡ record { memory = m; answer = slot_answer i reply.Done None None }) × (t' ≡ t)
+Removes m t i (Some j) r t' =
     let row = row_at t m.slots j.0 in
     (r.answer ≡ (on_drop i row.stream).answer) × Stores m t j.0 row (on_drop i row.stream).stream false r.memory t'
 

@@ -7,59 +7,48 @@ ghost use Rattle.connection.specs.Promises.{Promised, Gives};
 ghost use Rattle.connection_drop.specs.Given.{sized};
 ghost use Rattle.connection_drop.specs.Parts.{Removes, Releases};
 
-use connection::{Connection, Done, Handle};
+use connection::{Applied, Connection, Done};
 use frame::header::HEADER_SIZE;
-use handlers::{Answer, calls};
+use handlers::Answer;
+use handlers::calls::{self, StreamStep};
 use memory::Memory;
-use rules::{Reply, Slot, Which};
+use rules::{Reply, Slot};
 use table::row::Row;
 
-// What is left once the stream with the handle's id is out of the table, and what the drop answers.
-#[derive(Clone, Copy)]
-pub struct Removed {
-    pub memory: Memory,
-    pub answer: Answer,
+// Whether the lent table and links have their sizes, and the lent header twelve bytes.
+fn sized(c: Connection, table: usize, links: usize, sent: usize) -> bool
+    ensures { result ≡ sized c table links sent }
+{
+    memory::links_fit(c.memory.slots, c.memory.pool, table, links) && sent == HEADER_SIZE
 }
 
 // Closes the stream found with the handle's id, and takes it from the table.
-fn remove(memory: Memory, table: &mut [u64], slot: Slot, found: Which) -> Removed
+fn remove(memory: Memory, table: &mut [u64], slot: Slot, found: Option<Slot>) -> Applied
     ensures { Removes memory table.old slot found result table.new }
 {
-    let Which::At(place) = found else {
-        let bare = connection::bare(Reply::Done, false);
+    let Some(place) = found else {
         let answer = Answer {
-            slot: Which::At(slot),
-            ..bare
+            slot: Some(slot),
+            ..connection::bare(Reply::Done, false)
         };
-        return Removed { memory, answer };
+        return Applied { memory, answer };
     };
     let row = table::load(table, memory.slots, place);
-    let stream = row.stream;
-    let step = calls::on_drop(slot, stream);
-    let answer = step.answer;
-    let closed = step.stream;
-    let after = memory.store(table, place, row, closed, false);
-    Removed {
-        memory: after,
-        answer,
-    }
+    let StreamStep { stream, answer } = calls::on_drop(slot, row.stream);
+    let memory = memory.store(table, place, row, stream, false);
+    Applied { memory, answer }
 }
 
 // Drops a handle that is held. `row` is what its slot holds.
 fn release(c: Connection, table: &mut [u64], links: &mut [u32], slot: Slot, row: Row) -> Done
     ensures { Releases c table.old links.old slot row result table.new links.new }
 {
-    let memory = c.memory;
-    let stream = row.stream;
-    let flow = stream.flow;
-    let growth = flow.growth_returned(c.growth);
-    let found = table::find(table, memory.slots, stream.id);
-    let removed = remove(memory, table, slot, found);
-    let left = removed.memory;
-    let answer = removed.answer;
+    let growth = row.stream.flow.growth_returned(c.growth);
+    let found = table::find(table, c.memory.slots, row.stream.id);
+    let Applied { memory, answer } = remove(c.memory, table, slot, found);
     // A store keeps what a slot says, not which blocks say it.
-    let mine = table::load(table, left.slots, slot);
-    let memory = left.free(table, links, slot, mine);
+    let mine = table::load(table, memory.slots, slot);
+    let memory = memory.free(table, links, slot, mine);
     Done {
         connection: Connection {
             growth,
@@ -82,18 +71,13 @@ pub fn on_drop_stream(
     ensures by_index { (p : List ℕ) → Promised (sized c (length table.old) (length links.old) (length sent.old)) c table.old links.old p (drop time slot.0) result table.new links.new p }
     ensures gives { Gives result sent.old sent.new }
 {
-    let memory = c.memory;
-    let linked = memory::links_fit(memory.slots, memory.pool, table.len(), links.len());
-    let fits = linked & (sent.len() == HEADER_SIZE);
-    let found = connection::held_row(memory.slots, &table[..], fits, slot, time);
-    match found {
-        Handle::Refused(reply) => connection::refuse(c, reply),
-        Handle::Held(row) => {
+    let fits = sized(c, table.len(), links.len(), sent.len());
+    match connection::held_row(c.memory.slots, table, fits, slot, time) {
+        Ok(row) => {
             let done = release(c, table, links, slot, row);
-            let answer = done.answer;
-            let header = answer.sent;
-            connection::put(sent, header);
+            connection::put(sent, done.answer.sent);
             done
         }
+        Err(reply) => connection::refuse(c, reply),
     }
 }

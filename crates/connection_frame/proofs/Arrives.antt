@@ -1,17 +1,12 @@
 -- How a Data frame or a WindowUpdate comes to its rule: by the action that its handler decides from what it is shown. Assumes nothing.
-use mathlib.Core.Path.{◌≡◌, refl, sym, ap, ◌∙◌}
-use mathlib.Core.Bool.{Bool, true}
-use mathlib.Core.List.{List, [], append-nil}
-use Prim.Native.Nat.{ℕ}
-use lib.ListN.{length, set}
+use Rattle.std.proofs.Common.{Option, ◌≡◌, refl, sym, ap, ◌∙◌, Bool, true, List, [], append-nil, ℕ, length, set}
 use Rattle.frame.specs.declared.header.Header.{Header}
 use Rattle.stream.specs.declared.Stream.{Stream}
-use Rattle.rules.specs.Ending.{Result, gives}
+use Rattle.rules.specs.Ending.{Effect, gives}
 use Rattle.rules.specs.Frames.{frame_rules, body_length, new_entry}
 use Rattle.rules.specs.Replies.{may_give}
 use Rattle.rules.specs.State.{Entry, Conn, entry, find, with_slot}
 use Rattle.rules.specs.declared.Slot.{Slot}
-use Rattle.rules.specs.declared.Which.{Which}
 use Rattle.table.specs.Table.{Finds}
 use Rattle.table.specs.declared.row.Row.{Row}
 use Rattle.handlers.specs.Perform.{outcome_of, waits_on, heard, perform, wakes_open, of_stream}
@@ -31,7 +26,7 @@ use Rattle.connection.proofs.Moving.{becomes-follows, answer_follows, told}
 use Rattle.connection.proofs.Promises.{same_handles, acted, refused-handles}
 use Rattle.connection_frame.specs.Shown.{seen_at, vacancy_for, limits_in, decided}
 use Rattle.connection_frame.specs.Handles.{Applies, settled}
-use Rattle.connection_frame.specs.declared.Applied.{Applied}
+use Rattle.connection.specs.declared.Applied.{Applied}
 use Rattle.connection_frame.proofs.Walk.{Closed, walk}
 use Rattle.connection_frame.proofs.Sees.{remote_not_own, sees, replaces, has_room, makes}
 
@@ -40,7 +35,7 @@ module _ (c : Connection) (t l p : List ℕ) where
   S = slots_of c.memory t l p
 
   -- one slot changed, by an action that is no refusal
-  moves : (rule : Conn → Result) (o : Answer) (m : Memory) (t' l' p' : List ℕ) (i : ℕ) (e : Entry)
+  moves : (rule : Conn → Effect) (o : Answer) (m : Memory) (t' l' p' : List ℕ) (i : ℕ) (e : Entry)
       → rule (abs_of c t l p) ≡ gives (outcome_of o) (with_slot (heard (abs_of c t l p) o) i e) → may_give o.reply ≡ true
       → (Valid c t l p → Kept c.config.mode c.next_id e × Moved c.memory t l p i e m t' l' p')
       → Handles rule c t l p (settled c (record { memory = m; answer = o })) t' l' p'
@@ -49,7 +44,7 @@ module _ (c : Connection) (t l p : List ℕ) where
       (λ v. rw same (becomes-follows c t l p m (set S i e) t' l' p' (f v).1 c.rtt c.ended c.next_id (waits_on c.open_wait o) c.growth
       v.fresh.parity (below_set c.config.mode c.next_id S i e (f v).0 v.fresh.below) o (outcome_of o) (told o)))
 
-  module _ (h : Header) (body : List ℕ) (now : ℕ) (f : Which) (finds : Finds t c.memory.slots h.stream_id f) (n : length body ≡ body_length h.tag h.length.0) where
+  module _ (h : Header) (body : List ℕ) (now : ℕ) (f : Option Slot) (finds : Finds t c.memory.slots h.stream_id f) (n : length body ≡ body_length h.tag h.length.0) where
     abbrev row : Row
     row = (seen_at t c.memory.slots f h).row
 

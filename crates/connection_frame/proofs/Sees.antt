@@ -1,10 +1,5 @@
 -- What a handler is shown is what the rules look at, and what it decides to do a valid state allows. Assumes nothing.
-use mathlib.Core.Path.{◌≡◌, refl, sym, ap, ◌∙◌}
-use mathlib.Core.Bool.{Bool, true, false, cond}
-use mathlib.Core.List.{List}
-use Prim.Native.Nat.{ℕ, ◌+◌, ◌-◌, ◌%◌, ◌≤◌, ◌<◌}
-use native.Mathlib.Omega.{arith}
-use borrow.Author.Tests.{ltb-false, eqb-true, ne_eqb}
+use Rattle.std.proofs.Common.{Option, Some, None, ◌≡◌, refl, sym, ap, ◌∙◌, Bool, true, false, cond, List, ℕ, ◌+◌, ◌-◌, ◌%◌, ◌≤◌, ◌<◌, arith, ltb-false, eqb-true, ne_eqb}
 use Rattle.frame.specs.Header.{contains, ack, syn}
 use Rattle.frame.specs.declared.header.Header.{Header}
 use Rattle.frame.specs.declared.header.StreamId.{StreamId}
@@ -16,14 +11,11 @@ use Rattle.rules.specs.State.{Entry, entry, find, lowest_free, listed_count, is_
 use Rattle.rules.specs.declared.Mode.{Mode}
 use Rattle.rules.specs.declared.Mode.TheVariants.{Client, Server}
 use Rattle.rules.specs.declared.Slot.{Slot}
-use Rattle.rules.specs.declared.Which.{Which}
-use Rattle.rules.specs.declared.Which.TheVariants as which
 use Rattle.table.specs.Table as table
 use Rattle.table.specs.Table.{row_at, Finds}
-use Rattle.handlers.specs.Actions.{acked, stream_action}
+use Rattle.handlers.specs.Actions.{acked, stream_action, known}
 use Rattle.handlers.specs.Perform.{known_at, limits_of, wakes_open}
 use Rattle.handlers.specs.declared.Known.{Known}
-use Rattle.handlers.specs.declared.Known.TheVariants as known
 use Rattle.handlers.specs.declared.Limits.{Limits}
 use Rattle.handlers.proofs.Rules.{without_syn}
 use Rattle.memory.specs.Moves.{Follows}
@@ -53,13 +45,18 @@ remote_not_own Client id e = let z : id.0 % 2 ≡ 0 = eqb-true (id.0 % 2) 0 e in
 remote_not_own Server id e = let z : id.0 % 2 ≡ 1 = eqb-true (id.0 % 2) 1 e in ne_eqb (id.0 % 2) 0 (λ q. omega arith)
 
 -- what the test of a vacancy leaves, where it is a slot
-looked : (b : Bool) (u : Which) (i : Slot) → cond b u which.None ≡ which.At i → u ≡ which.At i
+looked : (b : Bool) (u : Option Slot) (i : Slot) → cond b u None ≡ Some i → u ≡ Some i
 looked true u i e = e
 looked false u i e = cc
 
-slot_of : (q : Place) (i : Slot) → found_of q ≡ which.At i → q ≡ at i.0
+slot_of : (q : Place) (i : Slot) → found_of q ≡ Some i → q ≡ at i.0
 slot_of (at j) i e = let z : record { 0 = j } ≡ i = cc in ap (λ (x : Slot). at x.0) z
 slot_of nowhere i e = cc
+
+same_known : (i j : Slot) (s u : Stream) → known i s ≡ known j u → (i ≡ j) × (s ≡ u)
+same_known i j s u e =
+    let z : record { slot = i; stream = s } ≡ record { slot = j; stream = u } = cc in
+    (ap (λ (x : Known). x.slot) z, ap (λ (x : Known). x.stream) z)
 
 module _ (c : Connection) (t l p : List ℕ) (v : Valid c t l p) where
   abbrev S : List Entry
@@ -79,7 +76,7 @@ module _ (c : Connection) (t l p : List ℕ) (v : Valid c t l p) where
       let h = sym (entry-held c.memory t l p v.memory i a.0) ∙ a.2 in
       ap (λ (x : Entry). x.stream) (entry-of-held c.memory t l p v.memory i a.0 h)
 
-  module _ (h : Header) (f : Which) (finds : Finds t c.memory.slots h.stream_id f) where
+  module _ (h : Header) (f : Option Slot) (finds : Finds t c.memory.slots h.stream_id f) where
     abbrev place : Place
     place = find S h.stream_id
 
@@ -90,7 +87,7 @@ module _ (c : Connection) (t l p : List ℕ) (v : Valid c t l p) where
     sees_known = rw is-place (go place refl)
       where
         go : (q : Place) → place ≡ q → (seen_at t K (found_of q) h).known ≡ known_at (abs_of c t l p) h q
-        go (at i) e = ap (λ (s : Stream). known.At (record { 0 = i }) (acked h s)) (sym (row-stream h.stream_id i e))
+        go (at i) e = ap (λ (s : Stream). known (record { 0 = i }) (acked h s)) (sym (row-stream h.stream_id i e))
         go nowhere e = refl
 
     -- the action is what the rules' state decides: the vacancy matters only with SYN
@@ -98,52 +95,51 @@ module _ (c : Connection) (t l p : List ℕ) (v : Valid c t l p) where
         ≡ stream_action (limits_of (abs_of c t l p)) (wakes_open c.open_wait h) (known_at (abs_of c t l p) h (find (slots_of c.memory t l p) h.stream_id)) (found_of (lowest_free (slots_of c.memory t l p))) h now
     sees now =
         ap (λ (x : Limits). stream_action x woke (seen_at t K f h).known (vacancy_for t K h) h now) sees-limits
-        ∙ ap (λ (x : Known). stream_action (limits_of (abs_of c t l p)) woke x (vacancy_for t K h) h now) sees_known
+        ∙ ap (λ (x : Option Known). stream_action (limits_of (abs_of c t l p)) woke x (vacancy_for t K h) h now) sees_known
         ∙ go (contains h.flags syn) refl
       where
         woke : Bool
         woke = wakes_open c.open_wait h
 
         go : (b : Bool) → contains h.flags syn ≡ b
-            → stream_action (limits_of (abs_of c t l p)) woke (known_at (abs_of c t l p) h place) (cond b (table.lowest_free t K) which.None) h now
+            → stream_action (limits_of (abs_of c t l p)) woke (known_at (abs_of c t l p) h place) (cond b (table.lowest_free t K) None) h now
             ≡ stream_action (limits_of (abs_of c t l p)) woke (known_at (abs_of c t l p) h place) (found_of (lowest_free S)) h now
-        go true e = ap (λ (x : Which). stream_action (limits_of (abs_of c t l p)) woke (known_at (abs_of c t l p) h place) x h now) (free-slots c.memory t l p v.memory)
-        go false e = without_syn (limits_of (abs_of c t l p)) woke (known_at (abs_of c t l p) h place) which.None (found_of (lowest_free S)) h now e
+        go true e = ap (λ (x : Option Slot). stream_action (limits_of (abs_of c t l p)) woke (known_at (abs_of c t l p) h place) x h now) (free-slots c.memory t l p v.memory)
+        go false e = without_syn (limits_of (abs_of c t l p)) woke (known_at (abs_of c t l p) h place) None (found_of (lowest_free S)) h now e
 
     -- the stream may take the place of the one that was found
-    pub replaces : (i : Slot) (s u : Stream) (b : Bool) → (seen_at t c.memory.slots f h).known ≡ known.At i s → u.id ≡ s.id
+    pub replaces : (i : Slot) (s u : Stream) (b : Bool) → (seen_at t c.memory.slots f h).known ≡ known i s → u.id ≡ s.id
         → ((seen_at t c.memory.slots f h).row ≡ row_at t c.memory.slots i.0) × (i.0 < c.memory.slots) × Follows (entry (slots_of c.memory t l p) i.0) u b
     replaces i s u b e d = rw is-place (go place refl (rw is-place at e))
       where
-        go : (q : Place) → place ≡ q → (seen_at t K (found_of q) h).known ≡ known.At i s
+        go : (q : Place) → place ≡ q → (seen_at t K (found_of q) h).known ≡ known i s
             → ((seen_at t K (found_of q) h).row ≡ row_at t K i.0) × (i.0 < K) × Follows (entry S i.0) u b
         go (at j) w g =
             let a = find_at c.memory t l p v.memory h.stream_id j w in
-            let y : record { 0 = j } ≡ i = cc in
-            let z : acked h (row_at t K j).stream ≡ s = cc in
-            rw (← y) (
+            let y = same_known (record { 0 = j }) i (acked h (row_at t K j).stream) s g in
+            rw (← y.0) (
               refl,
               a.0,
               record {
                 held = a.2;
-                id = d ∙ ap (λ (x : Stream). x.id) (sym z) ∙ acked_id h (row_at t K j).stream ∙ ap (λ (x : Stream). x.id) (sym (row-stream h.stream_id j w));
+                id = d ∙ ap (λ (x : Stream). x.id) (sym y.1) ∙ acked_id h (row_at t K j).stream ∙ ap (λ (x : Stream). x.id) (sym (row-stream h.stream_id j w));
                 listed = λ k. a.1;
               },
             )
-        go nowhere w g = absurd (let z : ◌≡◌ {A = ℕ} 0 1 = cc in omega arith)
+        go nowhere w g = cc
 
     pub has_room : Roomy (limits_in c) h → c.memory.unread + body_length h.tag h.length.0 ≤ c.memory.pool
     has_room e = omega (arith, ltb-false (c.memory.pool - c.memory.unread) (body_length h.tag h.length.0) e, v.memory.within)
 
-    unknown : (seen_at t K f h).known ≡ known.Nowhere → place ≡ nowhere
+    unknown : (seen_at t K f h).known ≡ None → place ≡ nowhere
     unknown e = go place (rw is-place at e)
       where
-        go : (q : Place) → (seen_at t K (found_of q) h).known ≡ known.Nowhere → q ≡ nowhere
+        go : (q : Place) → (seen_at t K (found_of q) h).known ≡ None → q ≡ nowhere
         go (at j) g = cc
         go nowhere g = refl
 
     -- the stream may be made in the slot: the slot is free, and no stream in the table has the id
-    pub makes : (i : Slot) → vacancy_for t c.memory.slots h ≡ which.At i → (seen_at t c.memory.slots f h).known ≡ known.Nowhere
+    pub makes : (i : Slot) → vacancy_for t c.memory.slots h ≡ Some i → (seen_at t c.memory.slots f h).known ≡ None
         → (i.0 < c.memory.slots) × ((entry (slots_of c.memory t l p) i.0).held ≡ false) × (find (slots_of c.memory t l p) h.stream_id ≡ nowhere)
     makes i e g =
         let o = looked (contains h.flags syn) (table.lowest_free t K) i e in

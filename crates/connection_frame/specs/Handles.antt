@@ -1,10 +1,10 @@
 -- What the handling of a frame promises, on every input and from a valid state.
-use Rattle.std.specs.Prelude.{◌≡◌, Bool, true, false, cond, List, ℕ, length, eqb}
+use Rattle.std.specs.Prelude.{◌≡◌, Bool, true, false, cond, List, ℕ, length, eqb, Result, Ok, Err}
 use Rattle.frame.specs.declared.header.Header.{Header}
-use Rattle.frame.specs.declared.header.Decoded.{Decoded}
-use Rattle.frame.specs.declared.header.Decoded.TheVariants as found
+use Rattle.frame.specs.declared.header.HeaderDecodeError.{HeaderDecodeError}
+use Rattle.frame.specs.declared.header.HeaderDecodeError.TheVariants as found
 use Rattle.rules.specs.State.{Conn, find}
-use Rattle.rules.specs.Ending.{Result, refuse, end}
+use Rattle.rules.specs.Ending.{Effect, refuse, end}
 use Rattle.rules.specs.Frames.{frame_rules, ping_rules, body_length, on_header}
 use Rattle.rules.specs.declared.Reply.TheVariants as reply
 use Rattle.table.specs.declared.row.Row.{Row}
@@ -19,7 +19,7 @@ use Rattle.connection.specs.Promises as connection
 use Rattle.connection.specs.Promises.{bare_answer, Handles}
 use Rattle.connection.specs.declared.Connection.{Connection}
 use Rattle.connection.specs.declared.Done.{Done}
-use Rattle.connection_frame.specs.declared.Applied.{Applied}
+use Rattle.connection.specs.declared.Applied.{Applied}
 
 -- ---- an action
 
@@ -59,13 +59,13 @@ HandlesPing c t h now d = (l p : List ℕ) → Handles (λ x. ping_rules x h now
 -- ---- what twelve bytes were found to be
 
 -- "11, 12, 13, the rules below", once the time is in range and the connection has not ended
-abbrev pub found_rules : Decoded → Conn → List ℕ → ℕ → Result
-found_rules found.Size x body now = refuse x reply.Size
-found_rules (found.Version v) x body now = end x reply.Version
-found_rules (found.Type n) x body now = end x reply.Type
-found_rules (found.Header h) x body now = on_header x h body now
+abbrev pub found_rules : Result Header HeaderDecodeError → Conn → List ℕ → ℕ → Effect
+found_rules (Err found.Size) x body now = refuse x reply.Size
+found_rules (Err (found.Version v)) x body now = end x reply.Version
+found_rules (Err (found.Type n)) x body now = end x reply.Type
+found_rules (Ok h) x body now = on_header x h body now
 
-abbrev pub HandlesDecoded : Connection → List ℕ → List ℕ → List ℕ → Decoded → List ℕ → ℕ → Done → List ℕ → List ℕ → List ℕ → Type 0
+abbrev pub HandlesDecoded : Connection → List ℕ → List ℕ → List ℕ → Result Header HeaderDecodeError → List ℕ → ℕ → Done → List ℕ → List ℕ → List ℕ → Type 0
 HandlesDecoded c t l p f body now d t' l' p' = Handles (λ x. found_rules f x body now) c t l p d t' l' p'
 
 -- ---- the call

@@ -7,25 +7,19 @@ ghost use Rattle.std.specs.Prelude.{◌≡◌, length};
 ghost use Rattle.connection.specs.Promises.{Promised, Gives};
 ghost use Rattle.handlers.specs.Perform.{waits_on};
 ghost use Rattle.rules.specs.Step.{frame};
-ghost use Rattle.connection_frame.specs.Shown.{is_found};
 ghost use Rattle.connection_frame.specs.Handles.{Applies, settled, HandlesStream, HandlesPing, HandlesType, HandlesDecoded, sized};
 
-use connection::{Connection, Done, Gate};
+use crate::shown::Decided;
+use connection::{Applied, Connection, Done};
 use frame::header;
-use frame::header::{Decoded, HEADER_SIZE, Header, Tag};
+use frame::header::{HEADER_SIZE, Header, HeaderDecodeError, Tag};
 use handlers::{Action, Answer};
 use memory::Memory;
-use rules::{Reply, Which};
+use rules::Reply;
 use table::row::Row;
 
-// The memory after an action, and what the frame is answered.
-#[derive(Clone, Copy)]
-pub struct Applied {
-    pub memory: Memory,
-    pub answer: Answer,
-}
-
 // Does what the action says. `row` is what its slot holds.
+// Three slices: a struct of them owes names, lengths and untouched fields in each contract, and is no plainer.
 fn apply(
     memory: Memory,
     table: &mut [u64],
@@ -38,32 +32,23 @@ fn apply(
     ensures { Applies memory table.old links.old pool.old row action body.now result table.new links.new pool.new }
 {
     match action {
-        Action::Refuse(reply) => {
-            let answer = connection::bare(reply, false);
-            Applied { memory, answer }
-        }
+        Action::Refuse(reply) => Applied {
+            memory,
+            answer: connection::bare(reply, false),
+        },
         Action::Answer(answer) => Applied { memory, answer },
-        Action::Store(slot, stream, listed, answer) => {
-            let after = memory.store(table, slot, row, stream, listed);
-            Applied {
-                memory: after,
-                answer,
-            }
-        }
-        Action::Queue(slot, stream, listed, answer) => {
-            let after = memory.feed(table, links, pool, slot, row, stream, listed, body);
-            Applied {
-                memory: after,
-                answer,
-            }
-        }
-        Action::New(slot, stream, answer) => {
-            let after = memory.make(table, links, pool, slot, stream, body);
-            Applied {
-                memory: after,
-                answer,
-            }
-        }
+        Action::Store(slot, stream, listed, answer) => Applied {
+            memory: memory.store(table, slot, row, stream, listed),
+            answer,
+        },
+        Action::Queue(slot, stream, listed, answer) => Applied {
+            memory: memory.feed(table, links, pool, slot, row, stream, listed, body),
+            answer,
+        },
+        Action::New(slot, stream, answer) => Applied {
+            memory: memory.make(table, links, pool, slot, stream, body),
+            answer,
+        },
     }
 }
 
@@ -71,24 +56,18 @@ fn apply(
 fn waits_on(waits: bool, answer: Answer) -> bool
     ensures { result ≡ waits_on waits answer }
 {
-    let wakes = answer.wakes;
-    if wakes.opener {
-        return false;
-    }
-    waits
+    waits && !answer.wakes.opener
 }
 
 // The connection over the memory that an action leaves.
 fn settle(c: Connection, applied: Applied) -> Done
     ensures { result ≡ settled c applied }
 {
-    let memory = applied.memory;
-    let answer = applied.answer;
-    let open_wait = waits_on(c.open_wait, answer);
+    let Applied { memory, answer } = applied;
     Done {
         connection: Connection {
             memory,
-            open_wait,
+            open_wait: waits_on(c.open_wait, answer),
             ..c
         },
         answer,
@@ -107,34 +86,17 @@ fn on_stream(
 ) -> Done
     ensures { HandlesStream c table.old links.old pool.old header body.now time result table.new links.new pool.new }
 {
-    let memory = c.memory;
-    let found = table::find(&table[..], memory.slots, header.stream_id);
-    let decided = shown::decide(c, &table[..], found, header, time);
-    let row = decided.row;
-    let action = decided.action;
-    let applied = apply(memory, table, links, pool, row, action, body);
-    settle(c, applied)
-}
-
-fn is_found(found: Which) -> bool
-    ensures { result ≡ is_found found }
-{
-    match found {
-        Which::At(_) => true,
-        Which::None => false,
-    }
+    let found = table::find(table, c.memory.slots, header.stream_id);
+    let Decided { row, action } = shown::decide(c, table, found, header, time);
+    settle(c, apply(c.memory, table, links, pool, row, action, body))
 }
 
 // A Ping, which touches the pings alone.
 fn on_ping(c: Connection, table: &[u64], header: Header, time: u64) -> Done
     ensures { HandlesPing c table.now header time result }
 {
-    let config = c.config;
-    let rtt = c.rtt;
-    let memory = c.memory;
-    let found = table::find(table, memory.slots, header.stream_id);
-    let in_table = is_found(found);
-    let pong = handlers::ping::on_ping(rtt, in_table, header, time, config.interval);
+    let in_table = table::find(table, c.memory.slots, header.stream_id).is_some();
+    let pong = handlers::ping::on_ping(c.rtt, in_table, header, time, c.config.interval);
     connection::pinged(c, pong)
 }
 
@@ -150,11 +112,9 @@ fn on_type(
 ) -> Done
     ensures { HandlesType c table.old links.old pool.old header body.now time result table.new links.new pool.new }
 {
-    let tag = header.tag;
-    match tag {
-        Tag::Data => on_stream(c, table, links, pool, header, body, time),
-        Tag::WindowUpdate => on_stream(c, table, links, pool, header, body, time),
-        Tag::Ping => on_ping(c, &table[..], header, time),
+    match header.tag {
+        Tag::Data | Tag::WindowUpdate => on_stream(c, table, links, pool, header, body, time),
+        Tag::Ping => on_ping(c, table, header, time),
         Tag::GoAway => connection::drop_all_streams(c, table, Reply::Closed),
     }
 }
@@ -166,19 +126,20 @@ fn on_decoded(
     table: &mut [u64],
     links: &mut [u32],
     pool: &mut [u8],
-    decoded: Decoded,
+    decoded: Result<Header, HeaderDecodeError>,
     body: &[u8],
     time: u64,
 ) -> Done
     ensures { HandlesDecoded c table.old links.old pool.old decoded body.now time result table.new links.new pool.new }
 {
     match decoded {
-        Decoded::Size => connection::refuse(c, Reply::Size),
-        Decoded::Version(_) => connection::drop_all_streams(c, table, Reply::Version),
-        Decoded::Type(_) => connection::drop_all_streams(c, table, Reply::Type),
-        Decoded::Header(header) => {
-            let n = handlers::body_length(header) as usize;
-            if body.len() == n {
+        Err(HeaderDecodeError::Size) => connection::refuse(c, Reply::Size),
+        Err(HeaderDecodeError::Version(_)) => {
+            connection::drop_all_streams(c, table, Reply::Version)
+        }
+        Err(HeaderDecodeError::Type(_)) => connection::drop_all_streams(c, table, Reply::Type),
+        Ok(header) => {
+            if body.len() == handlers::body_length(header) as usize {
                 on_type(c, table, links, pool, header, body, time)
             } else {
                 connection::refuse(c, Reply::Body)
@@ -191,10 +152,7 @@ fn on_decoded(
 fn sized(c: Connection, table: usize, links: usize, pool: usize, sent: usize, head: usize) -> bool
     ensures { result ≡ sized c table links pool sent head }
 {
-    if connection::sized(c, table, links, pool, sent) {
-        return head == HEADER_SIZE;
-    }
-    false
+    connection::sized(c, table, links, pool, sent) && head == HEADER_SIZE
 }
 
 // A frame from the peer, its twelve bytes in `head`. The header that it may call for is given into `sent`.
@@ -219,16 +177,10 @@ pub fn on_frame(
         sent.len(),
         head.len(),
     );
-    let gate = connection::judge(fits, c.ended, time);
-    match gate {
-        Gate::Shut(reply) => connection::refuse(c, reply),
-        Gate::Open => {
-            let decoded = header::decode(head);
-            let done = on_decoded(c, table, links, pool, decoded, body, time);
-            let answer = done.answer;
-            let given = answer.sent;
-            connection::put(sent, given);
-            done
-        }
+    if let Err(reply) = connection::judge(fits, c.ended, time) {
+        return connection::refuse(c, reply);
     }
+    let done = on_decoded(c, table, links, pool, header::decode(head), body, time);
+    connection::put(sent, done.answer.sent);
+    done
 }

@@ -1,12 +1,5 @@
 -- How an open comes to its promise: what is decided fits a valid state, and what is done is the rules'. Assumes nothing.
-use mathlib.Core.Path.{◌≡◌, refl, sym, ap, ◌∙◌}
-use mathlib.Core.Bool.{Bool, true, false, cond}
-use mathlib.Core.List.{List, []}
-use Prim.Native.Nat.{ℕ, ◌+◌, ◌%◌}
-use native.Mathlib.Omega.{arith}
-use borrow.Author.Tests.{eqb-true, eq-eqb}
-use lib.Dec.{eqb, ltb, leb}
-use lib.ListN.{set}
+use Rattle.std.proofs.Common.{Option, Some, None, Err, ◌≡◌, refl, sym, ap, ◌∙◌, Bool, true, false, cond, List, [], ℕ, ◌+◌, ◌%◌, arith, eqb-true, eq-eqb, eqb, ltb, leb, set}
 use Rattle.frame.specs.declared.header.StreamId.{StreamId}
 use Rattle.flow_control.specs.Windows.{top}
 use Rattle.stream.specs.declared.Stream.{Stream}
@@ -21,25 +14,21 @@ use Rattle.rules.specs.declared.Mode.TheVariants.{Client, Server}
 use Rattle.rules.specs.declared.Reply.{Reply}
 use Rattle.rules.specs.declared.Reply.TheVariants as reply
 use Rattle.rules.specs.declared.Slot.{Slot}
-use Rattle.rules.specs.declared.Which.{Which}
-use Rattle.rules.specs.declared.Which.TheVariants as which
 use Rattle.table.specs.Table.{lowest_free, unacknowledged}
 use Rattle.rules.proofs.Lists.{first-nowhere}
 use Rattle.table.proofs.Lists.{false_of}
 use Rattle.handlers.specs.Locals.{open_with, open_action, perform_open}
 use Rattle.handlers.specs.declared.Opening.TheVariants as opening
-use Rattle.handlers.specs.declared.NextId.TheVariants as next
 use Rattle.handlers.proofs.Locals.{open_performs}
 use Rattle.memory.specs.Moves.{Makes}
 use Rattle.memory.specs.Slots.{slots_of}
 use Rattle.memory.specs.declared.Memory.{Memory}
 use Rattle.memory.proofs.Laws.{free-at, free-slots, listed-count, backlog}
 use Rattle.connection.specs.Abstract.{abs_of, Valid, Fresh}
-use Rattle.connection.specs.Parts.{rebuilt, answered, gate_of}
+use Rattle.connection.specs.Parts.{rebuilt, answered, gate_of, goes_on}
 use Rattle.connection.specs.Promises.{bare_answer, refused, Over, Promised}
 use Rattle.connection.specs.declared.Connection.{Connection}
 use Rattle.connection.specs.declared.Done.{Done}
-use Rattle.connection.specs.declared.Gate.TheVariants as gate
 use Rattle.connection.proofs.Promises.{refused-handles, acted, promised}
 use Rattle.connection.proofs.Moving.{becomes-follows, answer_follows}
 use Rattle.connection.proofs.Tests.{gate-shut, gate_open}
@@ -127,16 +116,16 @@ module _ (c : Connection) (t l p : List ℕ) (now : ℕ) where
   unfolding open_action
   sound = go (leb c.config.max_num_streams c.memory.listed) (leb 256 (unacknowledged t c.memory.slots c.config.mode)) (ltb top (c.next_id + 2)) (lowest_free t c.memory.slots)
     where
-      go : (x y z : Bool) (q : Which)
-          → Sound (cond x (opening.End reply.TooManyStreams) (cond y opening.Wait (open_with (cond z next.NoMore (next.Id (record { 0 = c.next_id }) (c.next_id + 2))) q now)))
+      go : (x y z : Bool) (q : Option Slot)
+          → Sound (cond x (opening.End reply.TooManyStreams) (cond y opening.Wait (open_with (cond z None (Some (record { id = record { 0 = c.next_id }; after = c.next_id + 2 }))) q now)))
       go true y z q = refl
       go false true z q = tt
       go false false true q = refl
-      go false false false which.None = tt
-      go false false false (which.At i) = tt
+      go false false false None = tt
+      go false false false (Some i) = tt
 
   fits-rules : (v : Valid c t l p) (q : Place) → rules.lowest_free a.slots ≡ q → (x y z : Bool)
-      → Fits c t l p (cond x (opening.End reply.TooManyStreams) (cond y opening.Wait (open_with (cond z next.NoMore (next.Id (record { 0 = c.next_id }) (c.next_id + 2))) (found_of q) now)))
+      → Fits c t l p (cond x (opening.End reply.TooManyStreams) (cond y opening.Wait (open_with (cond z None (Some (record { id = record { 0 = c.next_id }; after = c.next_id + 2 }))) (found_of q) now)))
   fits-rules v q e true y z = tt
   fits-rules v q e false true z = tt
   fits-rules v q e false false true = tt
@@ -151,11 +140,11 @@ module _ (c : Connection) (t l p : List ℕ) (now : ℕ) where
 
   -- ---- the gate
 
-  pub shut : (sized : Bool) (r : Reply) → gate_of sized c.ended now ≡ gate.Shut r → Promised sized c t l p (open_stream now) (refused c r) t l p
+  pub shut : (sized : Bool) (r : Reply) → gate_of sized c.ended now ≡ Err r → Promised sized c t l p (open_stream now) (refused c r) t l p
   unfolding step
   shut sized r e = gate-shut c t l p sized (open_stream now) now (open_rules a now) c.ended r e (λ v. refl)
 
-  pub entered : (sized : Bool) → gate_of sized c.ended now ≡ gate.Open → (d : Done) (t' l' p' : List ℕ)
+  pub entered : (sized : Bool) → gate_of sized c.ended now ≡ goes_on → (d : Done) (t' l' p' : List ℕ)
       → Acts c t l p (decided c t now) d t' l' p' → Promised sized c t l p (open_stream now) d t' l' p'
   unfolding step
   entered sized e d t' l' p' acts =

@@ -1,13 +1,10 @@
 -- What opening a stream promises. Sentences are document 01's.
-use Rattle.std.specs.Prelude.{◌≡◌, false, List, ℕ, ◌+◌, ◌<◌}
+use Rattle.std.specs.Prelude.{◌≡◌, false, List, ℕ, ◌+◌, ◌<◌, Some, None}
 use Rattle.stream.specs.declared.Stream.{Stream}
-use Rattle.stream.specs.declared.Sent.TheVariants.{Nothing}
 use Rattle.rules.specs.Replies.{no_wakes, leaves_all}
 use Rattle.rules.specs.State.{entry}
 use Rattle.rules.specs.declared.Reply.TheVariants as reply
 use Rattle.rules.specs.declared.Slot.{Slot}
-use Rattle.rules.specs.declared.Which.TheVariants as which
-use Rattle.rules.specs.declared.Value.TheVariants as value
 use Rattle.table.specs.Table.{lowest_free, unacknowledged}
 use Rattle.handlers.specs.Locals.{open_action, perform_open}
 use Rattle.handlers.specs.declared.Answer.{Answer}
@@ -27,7 +24,7 @@ decided c t now =
 
 -- the answer that gives a new stream's slot and id
 abbrev pub opened : Slot → ℕ → Answer
-opened i id = record { reply = reply.Done; slot = which.At i; value = value.Of id; sent = Nothing; wakes = no_wakes }
+opened i id = record { reply = reply.Done; slot = Some i; value = Some id; sent = None; wakes = no_wakes }
 
 -- the stream may be made in slot i: the slot is free, its id is the next one, and two more comes after it
 pub record Opens (c : Connection) (t l p : List ℕ) (i : ℕ) (s : Stream) (after : ℕ) : Type 0 where

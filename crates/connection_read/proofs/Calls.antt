@@ -1,12 +1,7 @@
 -- How a read comes to its promise: by a refusal, with nothing to read, or by its rule. Assumes nothing.
-use mathlib.Core.Path.{◌≡◌, refl}
-use mathlib.Core.Bool.{Bool, true}
-use mathlib.Core.List.{List, [], ◌∷◌}
-use Prim.Native.Nat.{ℕ}
-use native.Mathlib.Omega.{arith}
-use lib.ListN.{length}
+use Rattle.std.proofs.Common.{Ok, Err, ◌≡◌, refl, Bool, true, List, [], ◌∷◌, ℕ, arith, length}
 use Rattle.rules.specs.State.{Conn}
-use Rattle.rules.specs.Ending.{Result}
+use Rattle.rules.specs.Ending.{Effect}
 use Rattle.rules.specs.Step.{step, read}
 use Rattle.rules.specs.declared.Reply.{Reply}
 use Rattle.table.specs.declared.row.Row.{Row}
@@ -16,7 +11,6 @@ use Rattle.connection.specs.Parts.{answered, handle_of, Holds}
 use Rattle.connection.specs.Promises.{refused, sent_after, Promised}
 use Rattle.connection.specs.declared.Connection.{Connection}
 use Rattle.connection.specs.declared.Done.{Done}
-use Rattle.connection.specs.declared.Handle.TheVariants.{Held, Refused}
 use Rattle.connection.proofs.Promises.{same_handles, acted, promised, read_counted}
 use Rattle.connection.proofs.Moving.{answer_follows}
 use Rattle.connection.proofs.Tests.{handle-shut, handle-held}
@@ -25,7 +19,7 @@ use Rattle.connection_read.proofs.Rows.{shut_rule}
 
 module _ (c : Connection) (t l p out : List ℕ) where
   -- a rule that is another from a valid state
-  pub same_reads : (rule rule' : Conn → Result) (d : Done) (t' l' out' : List ℕ) → (Valid c t l p → rule' (abs_of c t l p) ≡ rule (abs_of c t l p))
+  pub same_reads : (rule rule' : Conn → Effect) (d : Done) (t' l' out' : List ℕ) → (Valid c t l p → rule' (abs_of c t l p) ≡ rule (abs_of c t l p))
       → Reads rule c t l p out d t' l' out' → Reads rule' c t l p out d t' l' out'
   same_reads rule rule' d t' l' out' same r = record {
     handles = same_handles c t l p rule rule' d t' l' p same r.handles;
@@ -54,7 +48,7 @@ no_bytes [] e = refl
 no_bytes (x ∷ b) e = cc
 
 module _ (c : Connection) (t l p : List ℕ) (i : ℕ) (out : List ℕ) (time : ℕ) (sized : Bool) (sent : List ℕ) where
-  pub refused-call : (r : Reply) → handle_of sized c.memory.slots t i time ≡ Refused r
+  pub refused-call : (r : Reply) → handle_of sized c.memory.slots t i time ≡ Err r
       → Promised sized c t l p (read time i (length out)) (refused c r) t l p × Outputs sized c t l p time i out sent (refused c r) out sent
   unfolding step
   refused-call r e =
@@ -70,7 +64,7 @@ module _ (c : Connection) (t l p : List ℕ) (i : ℕ) (out : List ℕ) (time : 
         },
       )
 
-  pub held-call : (row : Row) → handle_of sized c.memory.slots t i time ≡ Held row → (d : Done) (t' l' out' sent' : List ℕ)
+  pub held-call : (row : Row) → handle_of sized c.memory.slots t i time ≡ Ok row → (d : Done) (t' l' out' sent' : List ℕ)
       → (Holds c t i row → Reads (λ x. rule_of x i (length out) time) c t l p out d t' l' out') → sent' ≡ sent_after d.answer.sent sent
       → Promised sized c t l p (read time i (length out)) d t' l' p × Outputs sized c t l p time i out sent d out' sent'
   unfolding step

@@ -1,11 +1,5 @@
 -- The bytes that a read's step draws from a valid connection. Assumes nothing.
-use mathlib.Core.Path.{◌≡◌, refl, sym, ◌∙◌}
-use mathlib.Core.Bool.{true}
-use mathlib.Core.List.{List, [], ◌++◌, append-nil}
-use Prim.Native.Nat.{ℕ, min, ◌≤◌}
-use native.Mathlib.Omega.{arith}
-use lib.ListN.{length, take, drop, set, drop_of_length-le}
-use lib.Seq.{length-take-le, drop_at}
+use Rattle.std.proofs.Common.{Option, Some, None, unwrap_or, ◌≡◌, refl, sym, ◌∙◌, true, List, [], ◌++◌, append-nil, ℕ, min, ◌≤◌, arith, length, take, drop, set, drop_of_length-le, length-take-le, drop_at}
 use Rattle.rules.specs.Replies.{count_of, may_give}
 use Rattle.rules.specs.State.{Entry, entry}
 use Rattle.table.specs.declared.row.Row.{Row}
@@ -24,6 +18,11 @@ use Rattle.connection.proofs.Promises.{acted}
 use Rattle.connection.proofs.Moving.{becomes-follows}
 use Rattle.connection.proofs.Ids.{below_replaced}
 use Rattle.connection_read.specs.Promises.{Reads, Draws}
+
+-- the value counts itself, and none counts 0
+pub counts : (v : Option ℕ) → unwrap_or v 0 ≡ count_of v
+counts (Some n) = refl
+counts None = refl
 
 -- the connection with the step's growth and this memory, and what the step answers
 abbrev pub taken : Connection → ReadStep → Memory → Done

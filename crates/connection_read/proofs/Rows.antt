@@ -1,11 +1,5 @@
 -- The step of a read, seen from the row of a held slot. Assumes nothing.
-use mathlib.Core.Path.{◌≡◌, refl, sym, ap, ◌∙◌}
-use mathlib.Core.Bool.{Bool, true, false, cond}
-use mathlib.Core.List.{List}
-use Prim.Native.Nat.{ℕ, min, ◌≤◌}
-use native.Mathlib.Omega.{arith}
-use lib.Dec.{eqb}
-use lib.ListN.{length}
+use Rattle.std.proofs.Common.{◌≡◌, refl, sym, ap, ◌∙◌, Bool, true, false, cond, List, ℕ, min, ◌≤◌, arith, eqb, length}
 use Rattle.rules.specs.Replies.{count_of, may_give}
 use Rattle.stream.specs.States.{can_read}
 use Rattle.stream.specs.Streams.{with_waits, send_window_update}

@@ -1,9 +1,5 @@
 -- Two reads that meet the promise give the same bytes and the same header. Assumes nothing.
-use mathlib.Core.Path.{◌≡◌, sym, ap, ◌∙◌}
-use mathlib.Core.Bool.{Bool, true, false}
-use mathlib.Core.List.{List}
-use Prim.Native.Nat.{ℕ}
-use lib.ListN.{length, drop}
+use Rattle.std.proofs.Common.{◌≡◌, sym, ap, ◌∙◌, Bool, true, false, List, ℕ, length, drop}
 use Rattle.rules.specs.Replies.{count_of}
 use Rattle.rules.specs.Step.{read}
 use Rattle.connection.specs.Abstract.{Valid}

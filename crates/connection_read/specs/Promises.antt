@@ -2,7 +2,7 @@
 use Rattle.std.specs.Prelude.{◌≡◌, Bool, true, false, List, ℕ, ◌≤◌, ◌<◌, length, drop}
 use Rattle.stream.specs.Streams.{send_window_update}
 use Rattle.rules.specs.State.{Conn, entry}
-use Rattle.rules.specs.Ending.{Result}
+use Rattle.rules.specs.Ending.{Effect}
 use Rattle.rules.specs.Calls.{read_rules}
 use Rattle.rules.specs.Step.{step, read}
 use Rattle.rules.specs.declared.Slot.{Slot}
@@ -35,7 +35,7 @@ pub record Outputs (sized : Bool) (c : Connection) (t l p : List ℕ) (time i : 
 -- ---- the parts
 
 -- a rule that is handled, with its bytes; and nothing past the bytes read changes
-pub record Reads (rule : Conn → Result) (c : Connection) (t l p out : List ℕ) (d : Done) (t' l' out' : List ℕ) : Type 0 where
+pub record Reads (rule : Conn → Effect) (c : Connection) (t l p out : List ℕ) (d : Done) (t' l' out' : List ℕ) : Type 0 where
   pub handles : Handles rule c t l p d t' l' p
   pub bytes : Valid c t l p → out' ≡ out_after (rule (abs_of c t l p)).outcome.bytes out
   pub within : count_of d.answer.value ≤ length out
@@ -62,7 +62,7 @@ Takes c t l p i row s out d t' l' out' =
     → Reads (λ x. perform_read x (record { 0 = i }) (entry x.slots i) s) c t l p out d t' l' out'
 
 -- the rule of a read from slot i
-abbrev pub rule_of : Conn → ℕ → ℕ → ℕ → Result
+abbrev pub rule_of : Conn → ℕ → ℕ → ℕ → Effect
 rule_of x i asked time = read_rules x i (entry x.slots i) asked time
 
 abbrev pub ReadsRow : Connection → List ℕ → List ℕ → List ℕ → ℕ → Row → List ℕ → ℕ → Done → List ℕ → List ℕ → List ℕ → Type 0

@@ -7,7 +7,7 @@ ghost use Rattle.rules.specs.Step.{read};
 ghost use Rattle.connection.specs.Promises.{sized, Promised};
 ghost use Rattle.connection_read.specs.Promises.{step_of, Takes, ReadsRow, Outputs};
 
-use connection::{Connection, Done, Handle};
+use connection::{Connection, Done};
 use flow_control::Conditions;
 use handlers::ReadStep;
 use rules::Slot;
@@ -17,20 +17,15 @@ use table::row::Row;
 fn step_of(c: Connection, slot: Slot, row: Row, asked: usize, time: u64) -> ReadStep
     ensures { result ≡ step_of c slot row asked time }
 {
-    let config = c.config;
-    let rtt = c.rtt;
-    let round_trip = rtt.get();
-    let stream = row.stream;
-    let queue = row.queue;
-    let updated = stream.send_window_update(Conditions {
-        unread: queue.unread,
+    let updated = row.stream.send_window_update(Conditions {
+        unread: row.queue.unread,
         time,
-        round_trip,
-        limit: config.limit,
-        max_num_streams: config.max_num_streams,
+        round_trip: c.rtt.get(),
+        limit: c.config.limit,
+        max_num_streams: c.config.max_num_streams,
         growth: c.growth,
     });
-    handlers::read::on_read(slot, updated, queue.unread, asked)
+    handlers::read::on_read(slot, updated, row.queue.unread, asked)
 }
 
 // Moves as many bytes as the answer's value counts, and keeps its stream and growth. `row` is what the slot holds.
@@ -47,10 +42,7 @@ fn take(
     requires { count_of step.answer.value ≤ length out.old }
     ensures { Takes c table.old links.old pool.now slot.0 row step out.old result table.new links.new out.new }
 {
-    let answer = step.answer;
-    let value = answer.value;
-    let count = value.count();
-    let n = count as usize;
+    let n = step.answer.value.unwrap_or(0) as usize;
     let memory = c
         .memory
         .drain(table, links, pool, slot, row, step.stream, &mut out[..n]);
@@ -60,7 +52,7 @@ fn take(
             memory,
             ..c
         },
-        answer,
+        answer: step.answer,
     }
 }
 
@@ -77,12 +69,10 @@ fn read_row(
 ) -> Done
     ensures { ReadsRow c table.old links.old pool.now slot.0 row out.old time result table.new links.new out.new }
 {
-    let config = c.config;
-    if handlers::read::is_shut(c.ended, config.read_after_close) {
-        let answer = handlers::read::nothing_read(slot);
+    if handlers::read::is_shut(c.ended, c.config.read_after_close) {
         return Done {
             connection: c,
-            answer,
+            answer: handlers::read::nothing_read(slot),
         };
     }
     let step = step_of(c, slot, row, out.len(), time);
@@ -104,15 +94,11 @@ pub fn read(
     ensures outputs { Outputs (sized c (length table.old) (length links.old) (length pool.now) (length sent.old)) c table.old links.old pool.now time slot.0 out.old sent.old result out.new sent.new }
 {
     let fits = connection::sized(c, table.len(), links.len(), pool.len(), sent.len());
-    let memory = c.memory;
-    let found = connection::held_row(memory.slots, &table[..], fits, slot, time);
-    match found {
-        Handle::Refused(reply) => connection::refuse(c, reply),
-        Handle::Held(row) => {
+    match connection::held_row(c.memory.slots, table, fits, slot, time) {
+        Err(reply) => connection::refuse(c, reply),
+        Ok(row) => {
             let done = read_row(c, table, links, pool, slot, row, out, time);
-            let answer = done.answer;
-            let frame = answer.sent;
-            connection::put(sent, frame);
+            connection::put(sent, done.answer.sent);
             done
         }
     }

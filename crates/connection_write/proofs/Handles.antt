@@ -1,12 +1,6 @@
 -- What a tick, and a step of a handle's stream, leave of a valid connection. Assumes nothing.
-use mathlib.Core.Path.{◌≡◌, refl, sym, ap, ◌∙◌}
-use mathlib.Core.Bool.{Bool}
-use mathlib.Core.List.{List, []}
-use Prim.Native.Nat.{ℕ}
-use lib.ListN.{set}
+use Rattle.std.proofs.Common.{◌≡◌, refl, sym, ap, ◌∙◌, Bool, List, [], ℕ, set, Option, Some, None, Ok}
 use Rattle.rtt.specs.Pings.{next_ping}
-use Rattle.rtt.specs.declared.NextPing.{NextPing}
-use Rattle.rtt.specs.declared.NextPing.TheVariants as ask
 use Rattle.rules.specs.Calls.{close_rules, tick_rules}
 use Rattle.rules.specs.State.{Entry, entry, with_stream}
 use Rattle.rules.specs.Step.{step, close}
@@ -26,11 +20,11 @@ use Rattle.connection.specs.Parts.{with_memory, answered, pinged, handle_of, Hol
 use Rattle.connection.specs.Promises.{Gives, Follows, Handles, Promised}
 use Rattle.connection.specs.declared.Connection.{Connection}
 use Rattle.connection.specs.declared.Done.{Done}
-use Rattle.connection.specs.declared.Handle.TheVariants.{Held}
 use Rattle.connection.proofs.Ids.{below_replaced}
 use Rattle.connection.proofs.Moving.{becomes-follows, answer_follows}
 use Rattle.connection.proofs.Promises.{acted, promised}
 use Rattle.connection.proofs.Tests.{handle-held, handle_holds, held-entry}
+use Rattle.frame.specs.declared.header.Header.{Header}
 
 -- ---- tick
 
@@ -38,9 +32,9 @@ tick_done : (r : Rtt) (now : ℕ) → (on_tick r now).answer.reply ≡ reply.Don
 unfolding on_tick
 tick_done r now = go (next_ping r now).ping
   where
-    go : (p : NextPing) → (ping_sent (next_ping r now).rtt p).answer.reply ≡ reply.Done
-    go ask.None = refl
-    go (ask.Ping h) = refl
+    go : (p : Option Header) → (ping_sent (next_ping r now).rtt p).answer.reply ≡ reply.Done
+    go None = refl
+    go (Some h) = refl
 
 tick_follows : (c : Connection) (t l p : List ℕ) (now : ℕ) → Valid c t l p
     → Follows c t l p (tick_rules (abs_of c t l p) now) (pinged c (on_tick c.rtt now)) t l p
@@ -76,7 +70,7 @@ module _ (c : Connection) (t l p : List ℕ) (i : ℕ) (row : Row) (h : Holds c 
       k.answer _ (record { reply = refl; slot = refl; value = refl; sent = refl; wakes = refl }))
 
 -- a close of a held handle, by its step
-pub close_promised : (sized : Bool) (c : Connection) (t : List ℕ) (now i : ℕ) (row : Row) → handle_of sized c.memory.slots t i now ≡ Held row
+pub close_promised : (sized : Bool) (c : Connection) (t : List ℕ) (now i : ℕ) (row : Row) → handle_of sized c.memory.slots t i now ≡ Ok row
     → (d : Done) (t' u u' : List ℕ)
     → (Holds c t i row → ((l p : List ℕ) → Handles (λ x. perform_step x i [] (on_close (record { 0 = i }) row.stream)) c t l p d t' l p) × Gives d u u')
     → ((l p : List ℕ) → Promised sized c t l p (close now i) d t' l p) × Gives d u u'

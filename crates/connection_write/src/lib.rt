@@ -6,13 +6,20 @@ ghost use Rattle.rules.specs.Step.{gone, tick, write, close};
 ghost use Rattle.memory.specs.Counts.{table_fits};
 ghost use Rattle.connection.specs.Promises.{Promised, Gives};
 ghost use Rattle.connection_write.specs.Given.{sent_sized, Carries};
-ghost use Rattle.connection_write.specs.Parts.{Keeps};
+ghost use Rattle.connection_write.specs.Parts.{Keeps, Writes, done_of};
 
-use connection::{Connection, Done, Gate, Handle};
+use connection::{Connection, Done};
 use frame::header::HEADER_SIZE;
-use handlers::calls::{StreamStep, WriteStep};
+use handlers::calls::{self, StreamStep};
 use rules::{Reply, Slot};
 use table::row::Row;
+
+// Whether the lent table has its size, and the lent header twelve bytes.
+fn sized(c: Connection, table: usize, sent: usize) -> bool
+    ensures { result ≡ sent_sized c table sent }
+{
+    memory::table_fits(c.memory.slots, table) && sent == HEADER_SIZE
+}
 
 // Gives the answer, and puts the stream back at its slot. `row` is what the slot holds.
 fn keep(
@@ -25,15 +32,30 @@ fn keep(
 ) -> Done
     ensures { Keeps c table.old sent.old slot.0 row step result table.new sent.new }
 {
-    let answer = step.answer;
-    let stream = step.stream;
-    let header = answer.sent;
-    connection::put(sent, header);
+    let StreamStep { stream, answer } = step;
+    connection::put(sent, answer.sent);
     let memory = c.memory.store(table, slot, row, stream, row.listed);
     Done {
         connection: Connection { memory, ..c },
         answer,
     }
+}
+
+// As `write`, with a refusal told apart.
+fn try_write(
+    c: Connection,
+    table: &mut [u64],
+    sent: &mut [u8],
+    slot: Slot,
+    given: &[u8],
+    time: u64,
+) -> Result<Done, Reply>
+    ensures { Writes (sent_sized c (length table.old) (length sent.old)) c table.old time slot.0 given.now (done_of c result) table.new sent.old sent.new }
+{
+    let fits = sized(c, table.len(), sent.len());
+    let row = connection::held_row(c.memory.slots, table, fits, slot, time)?;
+    let step = calls::on_write(c.ended, slot, row.stream, given.len(), c.config.split)?;
+    Ok(keep(c, table, sent, slot, row, step))
 }
 
 // Writes to the handle's stream. The body of the header given is the first bytes of `given` that its length counts.
@@ -49,22 +71,8 @@ pub fn write(
     ensures gives { Gives result sent.old sent.new }
     ensures carries { Carries (sent_sized c (length table.old) (length sent.old)) c table.old time slot.0 given.now result }
 {
-    let memory = c.memory;
-    let fits = memory::table_fits(memory.slots, table.len()) & (sent.len() == HEADER_SIZE);
-    let found = connection::held_row(memory.slots, &table[..], fits, slot, time);
-    match found {
-        Handle::Refused(reply) => connection::refuse(c, reply),
-        Handle::Held(row) => {
-            let config = c.config;
-            let stream = row.stream;
-            let count = given.len();
-            let step = handlers::calls::on_write(c.ended, slot, stream, count, config.split);
-            match step {
-                WriteStep::Closed => connection::refuse(c, Reply::WriteClosed),
-                WriteStep::Kept(kept) => keep(c, table, sent, slot, row, kept),
-            }
-        }
-    }
+    let written = try_write(c, table, sent, slot, given, time);
+    written.unwrap_or_else(|reply| connection::refuse(c, reply))
 }
 
 // Closes the handle's stream for writing.
@@ -72,16 +80,10 @@ pub fn close(c: Connection, table: &mut [u64], sent: &mut [u8], slot: Slot, time
     ensures by_index { (l p : List ℕ) → Promised (sent_sized c (length table.old) (length sent.old)) c table.old l p (close time slot.0) result table.new l p }
     ensures gives { Gives result sent.old sent.new }
 {
-    let memory = c.memory;
-    let fits = memory::table_fits(memory.slots, table.len()) & (sent.len() == HEADER_SIZE);
-    let found = connection::held_row(memory.slots, &table[..], fits, slot, time);
-    match found {
-        Handle::Refused(reply) => connection::refuse(c, reply),
-        Handle::Held(row) => {
-            let stream = row.stream;
-            let step = handlers::calls::on_close(slot, stream);
-            keep(c, table, sent, slot, row, step)
-        }
+    let fits = sized(c, table.len(), sent.len());
+    match connection::held_row(c.memory.slots, table, fits, slot, time) {
+        Ok(row) => keep(c, table, sent, slot, row, calls::on_close(slot, row.stream)),
+        Err(reply) => connection::refuse(c, reply),
     }
 }
 
@@ -90,30 +92,22 @@ pub fn tick(c: Connection, table: &[u64], sent: &mut [u8], time: u64) -> Done
     ensures by_index { (l p : List ℕ) → Promised (sent_sized c (length table.now) (length sent.old)) c table.now l p (tick time) result table.now l p }
     ensures gives { Gives result sent.old sent.new }
 {
-    let memory = c.memory;
-    let fits = memory::table_fits(memory.slots, table.len()) & (sent.len() == HEADER_SIZE);
-    let gate = connection::judge(fits, c.ended, time);
-    match gate {
-        Gate::Shut(reply) => connection::refuse(c, reply),
-        Gate::Open => {
-            let step = handlers::calls::on_tick(c.rtt, time);
-            let answer = step.answer;
-            let header = answer.sent;
-            connection::put(sent, header);
-            connection::pinged(c, step)
-        }
+    let fits = sized(c, table.len(), sent.len());
+    if let Err(reply) = connection::judge(fits, c.ended, time) {
+        return connection::refuse(c, reply);
     }
+    let step = calls::on_tick(c.rtt, time);
+    connection::put(sent, step.answer.sent);
+    connection::pinged(c, step)
 }
 
 // The peer is gone: the connection ends.
 pub fn peer_gone(c: Connection, table: &mut [u64], time: u64) -> Done
     ensures { (l p : List ℕ) → Promised (table_fits c.memory.slots (length table.old)) c table.old l p (gone time) result table.new l p }
 {
-    let memory = c.memory;
-    let fits = memory::table_fits(memory.slots, table.len());
-    let gate = connection::judge(fits, c.ended, time);
-    match gate {
-        Gate::Shut(reply) => connection::refuse(c, reply),
-        Gate::Open => connection::drop_all_streams(c, table, Reply::Closed),
+    let fits = memory::table_fits(c.memory.slots, table.len());
+    match connection::judge(fits, c.ended, time) {
+        Ok(()) => connection::drop_all_streams(c, table, Reply::Closed),
+        Err(reply) => connection::refuse(c, reply),
     }
 }

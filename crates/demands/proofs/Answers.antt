@@ -1,13 +1,5 @@
 -- What reads and drops answer, and what a run of calls keeps. Assumes nothing.
-use mathlib.Core.Path.{◌≡◌, refl, ap}
-use mathlib.Core.Bool.{Bool, true, false, cond}
-use mathlib.Core.List.{List, [], ◌∷◌}
-use Prim.Native.Nat.{ℕ, zero, suc, ◌+◌, ◌-◌, ◌%◌, ◌≤◌}
-use native.Mathlib.Omega.{arith}
-use native.Mathlib.Nat.{le_refl}
-use lib.ListN.{length, take}
-use lib.Dec.{ltb}
-use borrow.Author.Tests.{le-ltb}
+use Rattle.std.proofs.Common.{◌≡◌, refl, ap, Bool, true, false, cond, List, [], ◌∷◌, ℕ, zero, suc, ◌+◌, ◌-◌, ◌%◌, ◌≤◌, arith, le_refl, length, take, ltb, le-ltb}
 use Rattle.flow_control.specs.Windows.{top}
 use Rattle.stream.specs.Streams as stream
 use Rattle.stream.specs.declared.Updated.{Updated}
@@ -18,7 +10,7 @@ use Rattle.rules.specs.declared.Mode.TheVariants.{Client, Server}
 use Rattle.rules.specs.Settings.{last_time}
 use Rattle.rules.specs.Lists.{Place, at, nowhere}
 use Rattle.rules.specs.State.{Entry, Conn, entry, first_own, find, with_growth}
-use Rattle.rules.specs.Ending.{Result}
+use Rattle.rules.specs.Ending.{Effect}
 use Rattle.rules.specs.Calls.{growth_of, read_rest, read_with, read_rules, drop_at, drop_rules}
 use Rattle.rules.specs.Step.{step, run}
 use Rattle.rules.specs.Step as rules
@@ -48,7 +40,7 @@ take_again (suc n) [] = refl
 take_again (suc n) (x ∷ l) = ap {B = List ℕ} (λ r. x ∷ r) (take_again n l)
 
 -- what is given comes from the front of the unread bytes
-abbrev Front : Entry → Result → Type 0
+abbrev Front : Entry → Effect → Type 0
 Front e r = r.outcome.bytes ≡ take (length r.outcome.bytes) e.bytes
 
 module _ (c : Conn) (i : ℕ) (e : Entry) (u : Updated) (n : ℕ) where
@@ -78,13 +70,13 @@ module _ (c : Conn) (i : ℕ) (e : Entry) (u : Updated) (n : ℕ) where
   gives_all false b z = refl
 
 -- the tests of a call that passes them
-pub timely : (c : Conn) (now : ℕ) (r : Result) → now ≤ last_time → rules.timed c now r ≡ r
+pub timely : (c : Conn) (now : ℕ) (r : Effect) → now ≤ last_time → rules.timed c now r ≡ r
 timely c now r t = rw (le-ltb last_time now t)
 
-pub holds : (c : Conn) (i : ℕ) (r : Result) → (entry c.slots i).held ≡ true → rules.holding c i r ≡ r
+pub holds : (c : Conn) (i : ℕ) (r : Effect) → (entry c.slots i).held ≡ true → rules.holding c i r ≡ r
 holds c i r h = rw h
 
-pub alive : (c : Conn) (r : Result) → c.ended ≡ false → rules.live c r ≡ r
+pub alive : (c : Conn) (r : Effect) → c.ended ≡ false → rules.live c r ≡ r
 alive c r e = rw e
 
 -- ---- a drop

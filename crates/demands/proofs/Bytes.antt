@@ -1,22 +1,13 @@
 -- The history: what was accepted is what was given and what is unread. Assumes nothing.
-use mathlib.Core.Path.{◌≡◌, refl, sym, ap, ◌∙◌}
-use mathlib.Core.Bool.{Bool, true, false, cond}
-use mathlib.Core.List.{List, [], ◌++◌, append_assoc}
-use Prim.Native.Nat.{ℕ}
-use lib.ListN.{length, take, drop, take-append-drop, get_or, replicate}
+use Rattle.std.proofs.Common.{Option, Some, None, Result, Ok, Err, ◌≡◌, refl, sym, ap, ◌∙◌, Bool, true, false, cond, List, [], ◌++◌, append_assoc, ℕ, length, take, drop, take-append-drop, get_or, replicate, eqb}
 use lib.Seq.{drop-append_seam}
-use lib.Dec.{eqb}
 use Rattle.frame.specs.Header.{contains, rst}
 use Rattle.frame.specs.Wire.{decoded}
 use Rattle.frame.specs.declared.header.Header.{Header}
 use Rattle.frame.specs.declared.header.Tag.{Tag}
 use Rattle.frame.specs.declared.header.Tag.TheVariants as tag
-use Rattle.frame.specs.declared.header.Decoded.{Decoded}
-use Rattle.frame.specs.declared.header.Decoded.TheVariants as found
-use Rattle.rules.specs.declared.Which.{Which}
-use Rattle.rules.specs.declared.Which.TheVariants as which
-use Rattle.rules.specs.declared.Value.{Value}
-use Rattle.rules.specs.declared.Value.TheVariants as value
+use Rattle.frame.specs.declared.header.HeaderDecodeError.{HeaderDecodeError}
+use Rattle.frame.specs.declared.header.HeaderDecodeError.TheVariants as found
 use Rattle.rules.specs.Lists.{Place, at, nowhere}
 use Rattle.rules.specs.Replies.{Outcome}
 use Rattle.rules.specs.State.{Entry, Conn, vacant}
@@ -29,13 +20,14 @@ use Rattle.demands.proofs.Invariant.{Inv}
 use Rattle.demands.proofs.Sound.{bytes_of, left, moves}
 use Rattle.demands.proofs.Steps.{started, sound}
 use Rattle.demands.proofs.Answers.{front}
+use Rattle.rules.specs.declared.Slot.{Slot}
 
 -- ---- which calls give bytes
 
-tells_still : (w : Which) (v : Value) (body : List ℕ) (e : Event) → moves e ≡ false → moves (tells w v body e) ≡ false
-tells_still (which.At i) (value.Of n) body e s = refl
-tells_still (which.At i) value.None body e s = s
-tells_still which.None v body e s = s
+tells_still : (w : Option Slot) (v : Option ℕ) (body : List ℕ) (e : Event) → moves e ≡ false → moves (tells w v body e) ≡ false
+tells_still (Some i) (Some n) body e s = refl
+tells_still (Some i) None body e s = s
+tells_still None v body e s = s
 
 data_still : (b : Bool) (body : List ℕ) (place : Place) → moves (cond b nothing (brought_to place body)) ≡ false
 data_still true body place = refl
@@ -52,11 +44,11 @@ cond_still : (b : Bool) (e : Event) → moves e ≡ false → moves (cond b e no
 cond_still true e s = s
 cond_still false e s = refl
 
-frame_still : (d : Decoded) (c : Conn) (body : List ℕ) (o : Outcome) → moves (by_frame d c body o) ≡ false
-frame_still found.Size c body o = refl
-frame_still (found.Version n) c body o = refl
-frame_still (found.Type n) c body o = refl
-frame_still (found.Header h) c body o =
+frame_still : (d : Result Header HeaderDecodeError) (c : Conn) (body : List ℕ) (o : Outcome) → moves (by_frame d c body o) ≡ false
+frame_still (Err found.Size) c body o = refl
+frame_still (Err (found.Version n)) c body o = refl
+frame_still (Err (found.Type n)) c body o = refl
+frame_still (Ok h) c body o =
     cond_still (is_done o.reply) _ (tells_still o.slot o.value body _ (brought_still h.tag h body _))
 
 pub event_still : (c : Conn) (k : rules.Call) (o : Outcome) → moves_growth k ≡ false → moves (event c k o) ≡ false

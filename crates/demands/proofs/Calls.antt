@@ -1,15 +1,5 @@
 -- Reads, writes and closes keep the invariant. Assumes nothing.
-use mathlib.Core.Path.{◌≡◌, refl, sym, ◌∙◌}
-use mathlib.Core.Logic.{inl, inr}
-use mathlib.Core.Bool.{Bool, true, false, cond}
-use mathlib.Core.List.{List}
-use Prim.Native.Nat.{ℕ, ◌-◌, ◌≤◌, min}
-use native.Mathlib.Omega.{arith}
-use native.Mathlib.Nat.{le_refl}
-use lib.ListN.{length, set, drop, length-drop}
-use lib.Seq.{length-take-le, get_or-set_other}
-use lib.Dec.{eqb}
-use borrow.Author.Tests.{eqb-true}
+use Rattle.std.proofs.Common.{◌≡◌, refl, sym, ◌∙◌, inl, inr, Bool, true, false, cond, List, ℕ, ◌-◌, ◌≤◌, min, arith, le_refl, length, set, drop, length-drop, length-take-le, get_or-set_other, eqb, eqb-true}
 use Rattle.flow_control.specs.Windows.{top, with_send}
 use Rattle.flow_control.specs.declared.FlowController.{FlowController}
 use Rattle.stream.specs.States.{can_read, can_write, acknowledge}
@@ -22,7 +12,7 @@ use Rattle.stream.specs.declared.ReadEnd.TheVariants as reading
 use Rattle.stream.specs.declared.Written.TheVariants as written
 use Rattle.rules.specs.declared.Reply.TheVariants as reply
 use Rattle.rules.specs.State.{Entry, Conn, vacant, entry, with_slot, with_stream, with_growth}
-use Rattle.rules.specs.Ending.{Result}
+use Rattle.rules.specs.Ending.{Effect}
 use Rattle.rules.specs.Calls.{read_entry, read_rest, read_with, window_step, read_rules, write_with, write_rules, close_rules}
 use Rattle.demands.specs.History.{nothing, gave_out}
 use Rattle.rules.proofs.Lists.{split}
@@ -77,12 +67,12 @@ module _ (c : Conn) (v : Inv c) (i : ℕ) (held : (entry c.slots i).held ≡ tru
   others : (x : Entry) → c.ended ≡ c.ended → (j : ℕ) → (entry c.slots j).held ≡ true → (i ≡ j → ⊥) → entry (set c.slots i x) j ≡ entry c.slots j
   others x q j h n = get_or-set_other c.slots i j x vacant (λ e. n (sym e))
 
-  abbrev Quiet : Result → Type 0
+  abbrev Quiet : Effect → Type 0
   Quiet r = Sound c (λ j. i ≡ j) nothing r
 
   -- ---- read
 
-  abbrev ReadOk : Result → Type 0
+  abbrev ReadOk : Effect → Type 0
   ReadOk r = Sound c (λ j. i ≡ j) (gave_out i r.outcome.bytes) r
 
   -- what a window step leaves of the stream

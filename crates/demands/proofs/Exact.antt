@@ -1,37 +1,25 @@
 -- When a frame gets 7 or 8, and when it makes a stream: its rules, after any ACK step, do what the words of `specs/Demands.antt` say.
 -- Assumes nothing.
-use mathlib.Core.Path.{◌≡◌, refl, sym, ap, ◌∙◌, subst}
-use mathlib.Core.Logic.{◌≢◌}
-use mathlib.Core.Bool.{Bool, true, false, cond, not}
-use mathlib.Core.List.{List, []}
-use Prim.Native.Nat.{ℕ, ◌+◌, ◌<◌}
-use native.Mathlib.Omega.{arith}
-use lib.ListN.{length}
-use lib.Seq.{get_or-set_same}
-use lib.Dec.{eqb, ltb, leb}
-use borrow.Author.Tests.{ltb-true, ltb-false, leb-true, leb-false, lt-ltb, le-ltb, lt-leb, le-leb}
+use Rattle.std.proofs.Common.{Some, Result, Ok, Err, ◌≡◌, refl, sym, ap, ◌∙◌, subst, ◌≢◌, Bool, true, false, cond, not, List, [], ℕ, ◌+◌, ◌<◌, arith, length, get_or-set_same, eqb, ltb, leb, ltb-true, ltb-false, leb-true, leb-false, lt-ltb, le-ltb, le-leb}
+use borrow.Author.Tests.{lt-leb}
 use Rattle.frame.specs.Header.{contains, syn, ack, rst, fin, session_id, initial_window, protocol_error, internal_error}
 use Rattle.frame.specs.declared.header.Header.{Header}
 use Rattle.frame.specs.declared.header.StreamId.{StreamId}
 use Rattle.frame.specs.declared.header.Tag.{Tag}
 use Rattle.frame.specs.declared.header.Tag.TheVariants as tag
-use Rattle.frame.specs.declared.header.Decoded.{Decoded}
-use Rattle.frame.specs.declared.header.Decoded.TheVariants as found
+use Rattle.frame.specs.declared.header.HeaderDecodeError.{HeaderDecodeError}
+use Rattle.frame.specs.declared.header.HeaderDecodeError.TheVariants as found
 use Rattle.rtt.specs.Pings.{handle_pong}
-use Rattle.rtt.specs.declared.Pong.{Pong}
-use Rattle.rtt.specs.declared.Pong.TheVariants.{Accepted, Unexpected}
 use Rattle.flow_control.specs.Windows.{top}
 use Rattle.stream.specs.declared.Stream.{Stream}
 use Rattle.stream.specs.declared.StreamWakes.{StreamWakes}
-use Rattle.stream.specs.declared.Received.TheVariants.{Taken, ProtocolError}
 use Rattle.rules.specs.declared.Reply.{Reply}
 use Rattle.rules.specs.declared.Reply.TheVariants as reply
-use Rattle.rules.specs.declared.Value.TheVariants as value
 use Rattle.rules.specs.Replies.{Outcome, number}
 use Rattle.rules.specs.Settings.{last_time}
 use Rattle.rules.specs.Lists.{Place, at, nowhere}
 use Rattle.rules.specs.State.{Entry, Conn, vacant, entry, one, is_free, find, lowest_free, listed_count, room, is_remote, with_slot}
-use Rattle.rules.specs.Ending.{Result, gives, refuse, end, ended}
+use Rattle.rules.specs.Ending.{Effect, gives, refuse, end, ended}
 use Rattle.rules.specs.Frames.{Acked, new_entry, go_away, reset_entry, on_reset, make_at, make, is_known, syn_rules, syn_data, syn_update, taken_entry, take_at, known_data, known_update, data_rules, update_rules, pong_rules, ping_rules, answers_ping, frame_rules, body_length, on_header}
 use Rattle.rules.specs.Step.{on_decoded}
 use Rattle.rules.specs.Step as rules
@@ -45,6 +33,9 @@ use Rattle.demands.proofs.Sound.{at_end}
 use Rattle.demands.proofs.Acks.{Acks, Located}
 use Rattle.demands.proofs.Opening.{free_held}
 use Rattle.demands.proofs.Framed.{acked_as, all_held}
+use Rattle.rtt.specs.declared.UnexpectedPong.{UnexpectedPong}
+use Rattle.rtt.specs.declared.Rtt.{Rtt}
+use Rattle.stream.specs.Streams.{received, invalid}
 
 -- ---- 7 and 8
 
@@ -83,7 +74,7 @@ abbrev pub AllInUse : Conn → Type 0
 AllInUse c = held_count c.slots ≡ c.config.slots
 
 -- of a frame on c that names the id: whether the rules would make a stream, and whether its body would be queued and is too long
-pub record Exact (c : Conn) (id : StreamId) (opening over : Bool) (r : Result) : Type 0 where
+pub record Exact (c : Conn) (id : StreamId) (opening over : Bool) (r : Effect) : Type 0 where
   pub limits : Limits ((opening ≡ true) × AllInUse c) (over ≡ true) r.outcome.reply
   pub same : opening ≡ false → SameHeld c r.after
   pub opened : opening ≡ true → held_count c.slots < c.config.slots → over ≡ false → Opened c id r
@@ -99,32 +90,32 @@ still c id opening over shut fits o d n s = record {
 -- ---- Data and WindowUpdate, after an ACK step
 
 module _ (id : StreamId) (a : Acked) (opening over : Bool) where
-  abbrev Ok : Result → Type 0
-  Ok r = Exact a.before id opening over r
+  abbrev Good : Effect → Type 0
+  Good r = Exact a.before id opening over r
 
-  away : (place : Place) → Acks a id place → opening ≡ false → over ≡ false → (code : ℕ) → Ok (go_away a code)
+  away : (place : Place) → Acks a id place → opening ≡ false → over ≡ false → (code : ℕ) → Good (go_away a code)
   away place k shut fits code = still a.before id opening over shut fits _ a.conn (refl, refl) k.handles
 
   -- a slot that keeps its handle
   keeps : (i : ℕ) → Acks a id (at i) → (x : Entry) → x.held ≡ (entry a.conn.slots i).held → SameHeld a.before (with_slot a.conn i x)
   keeps i k x e = at_set (λ j y. y.held ≡ (entry a.before.slots j).held) a.conn.slots i x vacant k.located.0 (e ∙ k.handles i) (λ j n. k.handles j)
 
-  resets : (place : Place) → Acks a id place → opening ≡ false → over ≡ false → Ok (on_reset a place)
+  resets : (place : Place) → Acks a id place → opening ≡ false → over ≡ false → Good (on_reset a place)
   unfolding on_reset
   resets nowhere k shut fits = still a.before id opening over shut fits _ a.conn (refl, refl) k.handles
   resets (at i) k shut fits = still a.before id opening over shut fits _ _ (refl, refl) (keeps i k (reset_entry (entry a.conn.slots i)) refl)
 
   -- no room, with a slot left where one is needed
-  no_room : over ≡ true → (opening ≡ true → AllInUse a.before → ⊥) → Ok (refuse a.before reply.NoRoom)
+  no_room : over ≡ true → (opening ≡ true → AllInUse a.before → ⊥) → Good (refuse a.before reply.NoRoom)
   no_room o l = record { limits = eight_is (λ x. l x.0 x.1) o; same = λ e i. refl; opened = λ e s n. true-not-false o n }
 
   -- a stream in the table, which takes the frame where b says so
   takes : (i : ℕ) → Acks a id (at i) → (h : Header) (body : List ℕ) (b : Bool) → opening ≡ false → over ≡ and b (ltb (room a.conn) (length body)) → (s : Stream) (w : StreamWakes) →
-      Ok (take_at i a h body (cond b (Taken s w) ProtocolError))
+      Good (take_at i a h body (cond b (received s w) invalid))
   unfolding take_at
   takes i k h body false shut e s w = away (at i) k shut e protocol_error
   takes i k h body true shut e s w =
-      split Ok (ltb (room a.conn) (length body))
+      split Good (ltb (room a.conn) (length body))
       (λ r. no_room (e ∙ r) (λ o. true-not-false o shut))
       (λ r. still a.before id opening over shut (e ∙ r) _ _ (refl, refl) (keeps i k (taken_entry (entry a.conn.slots i) s (contains h.flags fin) body) refl))
 
@@ -132,7 +123,7 @@ module _ (id : StreamId) (a : Acked) (opening over : Bool) where
     same-slots : a.conn.config.slots ≡ a.before.config.slots
     same-slots = rw k.config
 
-    makes-at : (p : Place) → Says is_free a.conn.slots vacant p → Ok (make_at p a s body)
+    makes-at : (p : Place) → Says is_free a.conn.slots vacant p → Good (make_at p a s body)
     unfolding make_at
     makes-at nowhere f =
         let full : AllInUse a.before = omega (arith, all_held a.conn.slots f, k.helds, k.inv.size, same-slots) in
@@ -148,7 +139,7 @@ module _ (id : StreamId) (a : Acked) (opening over : Bool) where
         let more = sum-set (λ (x : Entry). one x.held) a.conn.slots i (new_entry s body) vacant f.0 in
         let vacates : one (entry a.conn.slots i).held ≡ 0 = rw free in
         let x = get_or-set_same a.conn.slots i (new_entry s body) vacant f.0 in
-        split Ok (ltb (room a.conn) (length body))
+        split Good (ltb (room a.conn) (length body))
         (λ r. no_room (e ∙ r) (λ o full. spare full))
         (λ r.
         record {
@@ -156,12 +147,12 @@ module _ (id : StreamId) (a : Acked) (opening over : Bool) where
           same = λ n. true-not-false does n;
           opened = λ o l n. (
             omega (arith, more, vacates, k.helds),
-            (refl, ap (λ (d : StreamId). value.Of d.0) names),
+            (refl, ap (λ (d : StreamId). Some d.0) names),
             (i, refl, sym (k.handles i) ∙ free, (ap (λ (y : Entry). y.held) x, ap (λ (y : Entry). y.listed) x, ap (λ (y : Entry). y.stream.id) x ∙ names)),
           );
         })
 
-    makes : Ok (make a s body)
+    makes : Good (make a s body)
     unfolding make
     makes = makes-at (lowest_free a.conn.slots) (first_says is_free a.conn.slots vacant)
 
@@ -172,17 +163,17 @@ module _ (id : StreamId) (a : Acked) (opening over : Bool) where
       (and (not (is_known place))
       (and (ltb (listed_count a.before.slots) a.before.config.max_num_streams) last))
 
-  syns : (place : Place) → Acks a id place → (last : Bool) → opening ≡ tests place last → (opening ≡ false → over ≡ false) → (full : ℕ) (next : Result) →
-      (place ≡ nowhere → opening ≡ last → Ok next) → Ok (syn_rules a id place full next)
+  syns : (place : Place) → Acks a id place → (last : Bool) → opening ≡ tests place last → (opening ≡ false → over ≡ false) → (full : ℕ) (next : Effect) →
+      (place ≡ nowhere → opening ≡ last → Good next) → Good (syn_rules a id place full next)
   unfolding syn_rules
   syns (at i) k last e n full next f =
-      split Ok (is_remote a.conn.config.mode id)
+      split Good (is_remote a.conn.config.mode id)
       (λ r. let shut : opening ≡ false = e ∙ rw (← k.config, r) in away (at i) k shut (n shut) protocol_error)
       (λ r. let shut : opening ≡ false = e ∙ rw (← k.config, r) in away (at i) k shut (n shut) protocol_error)
   syns nowhere k last e n full next f =
-      split Ok (is_remote a.conn.config.mode id)
+      split Good (is_remote a.conn.config.mode id)
       (λ r.
-      split Ok (leb a.conn.config.max_num_streams (listed_count a.conn.slots))
+      split Good (leb a.conn.config.max_num_streams (listed_count a.conn.slots))
       (λ m.
       let crowded = le-ltb (listed_count a.conn.slots) a.conn.config.max_num_streams (leb-true _ _ m) in
       let shut : opening ≡ false = e ∙ rw (← k.config, ← k.listeds, r, crowded) in
@@ -198,7 +189,7 @@ too_long c body queued = and queued (ltb (room c) (length body))
 
 module _ (h : Header) (now : ℕ) (a : Acked) (place : Place) (k : Acks a h.stream_id place) (here : place ≡ find a.before.slots h.stream_id) where
   module _ (body : List ℕ) where
-    abbrev DataOk : Result → Type 0
+    abbrev DataOk : Effect → Type 0
     DataOk r = Exact a.before h.stream_id (opens a.before h body) (too_long a.before body (queues a.before h body)) r
 
     same-room : ltb (room a.conn) (length body) ≡ ltb (room a.before) (length body)
@@ -232,7 +223,7 @@ module _ (h : Header) (now : ℕ) (a : Acked) (place : Place) (k : Acks a h.stre
         (λ r. resets h.stream_id a _ _ place k (rw r) (rw r))
         (λ r. split DataOk (contains h.flags syn) (λ s. syn-data r s) (λ s. known-data r s place refl))
 
-  abbrev UpdateOk : Result → Type 0
+  abbrev UpdateOk : Effect → Type 0
   UpdateOk r = Exact a.before h.stream_id (opens_by_credit a.before h) false r
 
   -- no bytes are never too many
@@ -268,27 +259,27 @@ ended_held : (c : Conn) → SameHeld c (ended c)
 ended_held c = at_end (λ j e. e.held ≡ (entry c.slots j).held) c.slots (λ j. refl)
 
 -- the id that a frame names
-abbrev pub named : Decoded → StreamId
-named found.Size = session_id
-named (found.Version v) = session_id
-named (found.Type t) = session_id
-named (found.Header h) = h.stream_id
+abbrev pub named : Result Header HeaderDecodeError → StreamId
+named (Err found.Size) = session_id
+named (Err (found.Version v)) = session_id
+named (Err (found.Type t)) = session_id
+named (Ok h) = h.stream_id
 
 module _ (c : Conn) (v : Inv c) (body : List ℕ) (now : ℕ) where
   module _ (h : Header) (live : c.ended ≡ false) where
     abbrev place : Place
     place = find c.slots h.stream_id
 
-    abbrev FrameOk : Tag → Result → Type 0
+    abbrev FrameOk : Tag → Effect → Type 0
     FrameOk t r = Exact c h.stream_id (opens_as t c h body) (too_long c body (queues_as t c h body)) r
 
     located : Located c.slots h.stream_id place
     located = first_says _ c.slots vacant
 
-    pongs : (p : Pong) → FrameOk tag.Ping (pong_rules c p)
+    pongs : (p : Result Rtt UnexpectedPong) → FrameOk tag.Ping (pong_rules c p)
     unfolding pong_rules
-    pongs Unexpected = still c _ _ _ refl refl _ _ (refl, refl) (λ i. refl)
-    pongs (Accepted p) = still c _ _ _ refl refl _ _ (refl, refl) (λ i. refl)
+    pongs (Err _) = still c _ _ _ refl refl _ _ (refl, refl) (λ i. refl)
+    pongs (Ok p) = still c _ _ _ refl refl _ _ (refl, refl) (λ i. refl)
 
     pings : FrameOk tag.Ping (ping_rules c h now)
     unfolding ping_rules
@@ -313,10 +304,10 @@ module _ (c : Conn) (v : Inv c) (body : List ℕ) (now : ℕ) where
     frames tag.Ping = pings
     frames tag.GoAway = still c _ _ _ refl refl _ _ (refl, refl) (ended_held c)
 
-  abbrev pub DecodedOk : Decoded → Result → Type 0
+  abbrev pub DecodedOk : Result Header HeaderDecodeError → Effect → Type 0
   DecodedOk d r = Exact c (named d) (ruled d c now body (λ h. opens_as h.tag c h body)) (too_long c body (ruled d c now body (λ h. queues_as h.tag c h body))) r
 
-  module _ (d : Decoded) (makes_none : ruled d c now body (λ h. opens_as h.tag c h body) ≡ false) (queues-none : ruled d c now body (λ h. queues_as h.tag c h body) ≡ false) where
+  module _ (d : Result Header HeaderDecodeError) (makes_none : ruled d c now body (λ h. opens_as h.tag c h body) ≡ false) (queues-none : ruled d c now body (λ h. queues_as h.tag c h body) ≡ false) where
     refuses : (q : Reply) → Neither q → DecodedOk d (refuse c q)
     refuses q n = still c _ _ _ makes_none (rw queues-none) _ _ n (λ i. refl)
 
@@ -326,13 +317,13 @@ module _ (c : Conn) (v : Inv c) (body : List ℕ) (now : ℕ) where
         split (DecodedOk d) c.ended (λ e. refuses reply.Closed (refl, refl)) (λ e.
         still c _ _ _ makes_none (rw queues-none) _ _ n (ended_held c)))
 
-  pub exact : (d : Decoded) → DecodedOk d (on_decoded d c body now)
+  pub exact : (d : Result Header HeaderDecodeError) → DecodedOk d (on_decoded d c body now)
   unfolding on_decoded on_header
-  exact found.Size = refuses found.Size refl refl reply.Size (refl, refl)
-  exact (found.Version n) = ends (found.Version n) refl refl reply.Version (refl, refl)
-  exact (found.Type n) = ends (found.Type n) refl refl reply.Type (refl, refl)
-  exact (found.Header h) =
-      let d : Decoded = found.Header h in
+  exact (Err found.Size) = refuses (Err found.Size) refl refl reply.Size (refl, refl)
+  exact (Err (found.Version n)) = ends (Err (found.Version n)) refl refl reply.Version (refl, refl)
+  exact (Err (found.Type n)) = ends (Err (found.Type n)) refl refl reply.Type (refl, refl)
+  exact (Ok h) =
+      let d : Result Header HeaderDecodeError = Ok h in
       split (DecodedOk d) (ltb last_time now)
       (λ t. let late = lt-leb now last_time (ltb-true last_time now t) in refuses d (rw late) (rw late) reply.Time (refl, refl))
       (λ t.

@@ -1,29 +1,18 @@
 -- A frame's way to its rules, and what they do with a stream in the table and with a new one. Assumes nothing.
-use mathlib.Core.Path.{◌≡◌, refl, sym, ap, ◌∙◌, subst}
-use mathlib.Core.Bool.{Bool, true, false, cond, not}
-use mathlib.Core.List.{List}
-use Prim.Native.Nat.{ℕ, ◌≤◌, ◌<◌}
-use native.Mathlib.Omega.{arith}
-use lib.ListN.{length}
-use lib.Seq.{get_or-set_same}
-use lib.Dec.{ltb, leb}
-use borrow.Author.Tests.{ltb-true, not-true, lt-leb, le-ltb, eq-eqb}
+use Rattle.std.proofs.Common.{None, Ok, ◌≡◌, refl, sym, ap, ◌∙◌, subst, Bool, true, false, cond, not, List, ℕ, ◌≤◌, ◌<◌, arith, length, get_or-set_same, ltb, leb, ltb-true, le-ltb, eq-eqb}
+use borrow.Author.Tests.{not-true, lt-leb}
 use Rattle.frame.specs.Header.{contains, syn, ack, rst, fin}
 use Rattle.frame.specs.Wire.{decoded}
 use Rattle.frame.specs.declared.header.Header.{Header}
 use Rattle.frame.specs.declared.header.StreamId.{StreamId}
 use Rattle.frame.specs.declared.header.Tag.{Tag}
-use Rattle.frame.specs.declared.header.Decoded.TheVariants as found
 use Rattle.stream.specs.declared.Stream.{Stream}
 use Rattle.stream.specs.declared.StreamWakes.{StreamWakes}
-use Rattle.stream.specs.declared.Received.TheVariants.{Taken}
-use Rattle.stream.specs.declared.Sent.TheVariants.{Nothing}
-use Rattle.rules.specs.declared.Value.TheVariants as value
 use Rattle.rules.specs.Replies.{Outcome}
 use Rattle.rules.specs.Settings.{last_time}
 use Rattle.rules.specs.Lists.{Place, at, nowhere}
 use Rattle.rules.specs.State.{Entry, Conn, vacant, entry, is_free, find, lowest_free, room, listed_count, is_remote}
-use Rattle.rules.specs.Ending.{Result}
+use Rattle.rules.specs.Ending.{Effect}
 use Rattle.rules.specs.Frames.{Acked, ack_step, answer, whose, new_entry, make_at, make, is_known, syn_rules, taken_entry, take_at, body_length, frame_rules, on_header}
 use Rattle.rules.specs.Step.{on_decoded, step}
 use Rattle.rules.specs.Step as rules
@@ -38,12 +27,13 @@ use Rattle.demands.proofs.Acks.{Acks, Located, after-ack, unmoved, acknowledges}
 use Rattle.demands.proofs.Steps.{reached}
 use Rattle.demands.proofs.Answers.{timely, alive}
 use Rattle.demands.proofs.Stale.{listed_live, found_at}
+use Rattle.stream.specs.Streams.{received}
 
 -- ---- the way to the rules
 
 -- a frame that passes the tests before them is its type's rules
 pub framed :
-    (c : Conn) (now : ℕ) (head body : List ℕ) (h : Header) (t : Tag) → decoded head ≡ found.Header h → h.tag ≡ t →
+    (c : Conn) (now : ℕ) (head body : List ℕ) (h : Header) (t : Tag) → decoded head ≡ Ok h → h.tag ≡ t →
     length body ≡ body_length t h.length.0 → now ≤ last_time → c.ended ≡ false →
     step c (rules.frame now head body) ≡ frame_rules t c h body (find c.slots h.stream_id) now
 unfolding step on_decoded on_header
@@ -66,7 +56,7 @@ enough id place a body k p = le-ltb (room a.conn) (length body) (rw (k.config, k
 -- ---- a stream in the table
 
 -- what a call does to the slot i
-abbrev pub Does : (Entry → Outcome → Entry → Type 0) → Conn → ℕ → Result → Type 0
+abbrev pub Does : (Entry → Outcome → Entry → Type 0) → Conn → ℕ → Effect → Type 0
 Does P c i r = P (entry c.slots i) r.outcome (entry r.after.slots i)
 
 -- the state of the stream in slot i after the ACK step
@@ -83,7 +73,7 @@ ack-taken c h i l =
 -- a frame for it does what its rules R do after any ACK step; N is what they need of the state before
 pub known :
     (c : Conn) → Reach c → (now i : ℕ) (head body : List ℕ) (t : Tag) (f : FrameFor t c i head body) → now ≤ last_time → (entry c.slots i).listed ≡ true →
-    (P : Entry → Outcome → Entry → Type 0) (N : Conn → Type 0) (R : Acked → Result) →
+    (P : Entry → Outcome → Entry → Type 0) (N : Conn → Type 0) (R : Acked → Effect) →
     frame_rules t c f.header body (at i) now ≡ R (ack_step c f.header (at i)) →
     ((a : Acked) → Acks a f.header.stream_id (at i) → AckTaken f.header i a.before a → N a.before → Does P a.before i (R a)) →
     N c → Does P c i (step c (rules.frame now head body))
@@ -101,8 +91,8 @@ known c m now i head body t f time l P N R e does n =
 pub stores :
     (h : Header) (body : List ℕ) (i : ℕ) (a : Acked) → Acks a h.stream_id (at i) → length body ≤ room a.before →
     (P : Entry → Outcome → Entry → Type 0) (s : Stream) (w : StreamWakes) →
-    P (entry a.before.slots i) (answer a (whose w i) value.None Nothing w) (taken_entry (entry a.conn.slots i) s (contains h.flags fin) body) →
-    Does P a.before i (take_at i a h body (Taken s w))
+    P (entry a.before.slots i) (answer a (whose w i) None None w) (taken_entry (entry a.conn.slots i) s (contains h.flags fin) body) →
+    Does P a.before i (take_at i a h body (received s w))
 unfolding take_at
 stores h body i a k p P s w x =
     rw (enough h.stream_id (at i) a body k p) (subst (P (entry a.before.slots i) _) (sym (get_or-set_same a.conn.slots i _ vacant k.located.0)) x)
@@ -110,7 +100,7 @@ stores h body i a k p P s w x =
 -- ---- a new stream
 
 -- the id and the lowest free slot are told, and that holds the stream
-abbrev pub Makes : Conn → Stream → List ℕ → Result → Type 0
+abbrev pub Makes : Conn → Stream → List ℕ → Effect → Type 0
 Makes c s body r = Gave r s.id.0 × InLowest c r (new_entry s body)
 
 -- the id may be opened, and there is a slot for it and room for the body
@@ -145,7 +135,7 @@ module _ (id : StreamId) (body : List ℕ) (a : Acked) (k : Acks a id nowhere) (
   makes s = made_at s (lowest_free a.conn.slots) (first_says is_free a.conn.slots vacant) (ap lowest_free (sym (k.unknown refl)))
 
   -- the tests that both types have are passed
-  pub admitted : (P : Result → Type 0) (full : ℕ) {next : Result} → P next → P (syn_rules a id nowhere full next)
+  pub admitted : (P : Effect → Type 0) (full : ℕ) {next : Effect} → P next → P (syn_rules a id nowhere full next)
   unfolding syn_rules
   admitted P full p =
       let there : is_remote a.conn.config.mode id ≡ true = rw k.config y.remote in
@@ -185,7 +175,7 @@ admitted_by c h last o =
 -- a frame that is admitted makes what its rules R make after any ACK step
 pub opened :
     (c : Conn) → Inv c → c.ended ≡ false → (h : Header) (body : List ℕ) (last : Bool) → admits c h last ≡ true →
-    length body ≤ room c → held_count c.slots < c.config.slots → (s : Stream) (R : Acked → Place → Result) →
+    length body ≤ room c → held_count c.slots < c.config.slots → (s : Stream) (R : Acked → Place → Effect) →
     (contains h.flags syn ≡ true → contains h.flags rst ≡ false → last ≡ true →
     (a : Acked) → Acks a h.stream_id nowhere → Ready a.before h.stream_id body → Makes a.before s body (R a nowhere)) →
     let place = find c.slots h.stream_id in

@@ -1,19 +1,7 @@
 -- Opening and dropping handles, and the tick, keep the invariant. Assumes nothing.
-use mathlib.Core.Path.{◌≡◌, refl, sym, ap, ◌∙◌}
-use mathlib.Core.Logic.{◌⊎◌, inl, inr}
-use mathlib.Core.Bool.{true, false, cond}
-use mathlib.Core.List.{List, []}
-use Prim.Native.Nat.{ℕ, ◌+◌, ◌-◌, ◌%◌, ◌≤◌, ◌<◌}
-use native.Mathlib.Omega.{arith}
-use native.Mathlib.Nat.{le_refl}
-use lib.ListN.{set}
-use lib.Seq.{get_or-set_other}
-use lib.Dec.{ltb, leb}
-use borrow.Author.Tests.{leb-false, ltb-false, eq-eqb}
+use Rattle.std.proofs.Common.{Option, Some, None, ◌≡◌, refl, sym, ap, ◌∙◌, ◌⊎◌, inl, inr, true, false, cond, List, [], ℕ, ◌+◌, ◌-◌, ◌%◌, ◌≤◌, ◌<◌, arith, le_refl, set, get_or-set_other, ltb, leb, leb-false, ltb-false, eq-eqb}
 use Rattle.frame.specs.declared.header.StreamId.{StreamId}
 use Rattle.rtt.specs.Pings.{next_ping}
-use Rattle.rtt.specs.declared.NextPing.{NextPing}
-use Rattle.rtt.specs.declared.NextPing.TheVariants as ask
 use Rattle.flow_control.specs.Windows.{top}
 use Rattle.stream.specs.Streams as stream
 use Rattle.rules.specs.declared.Mode.{Mode}
@@ -21,7 +9,7 @@ use Rattle.rules.specs.declared.Mode.TheVariants.{Client, Server}
 use Rattle.rules.specs.declared.Reply.TheVariants as reply
 use Rattle.rules.specs.Lists.{Place, at, nowhere}
 use Rattle.rules.specs.State.{Entry, Conn, vacant, entry, first_own, is_free, is_own, has_id, find, lowest_free, listed_count, unacknowledged, with_slot, with_pings}
-use Rattle.rules.specs.Ending.{Result}
+use Rattle.rules.specs.Ending.{Effect}
 use Rattle.rules.specs.Frames.{new_entry}
 use Rattle.rules.specs.Calls.{open_at, open_rules, growth_of, removed_entry, drop_at, drop_rules, ping_out, tick_rules}
 use Rattle.rules.proofs.Lists.{Says, first_says, sum_at}
@@ -32,6 +20,7 @@ use Rattle.demands.proofs.Invariant.{Inv, Kept, Fit, Stays, id_at, vacant_good, 
 use Rattle.demands.proofs.Sound.{Sound, Beside, moves, bytes_of, put_same, put_other, bytes-put, bytes_same, refused, done, ends}
 use Rattle.demands.proofs.Acks.{Located, is_listed}
 use Rattle.demands.proofs.Opening.{free_held}
+use Rattle.frame.specs.declared.header.Header.{Header}
 
 -- ---- open
 
@@ -64,7 +53,7 @@ module _ (c : Conn) (v : Inv c) (live : c.ended ≡ false) (now : ℕ) where
     quiet = λ e. true-not-false e live;
   }
 
-  abbrev OpenOk : Result → Type 0
+  abbrev OpenOk : Effect → Type 0
   OpenOk r = Sound c (λ j. ⊥) (cond (is_done r.outcome.reply) (tells r.outcome.slot r.outcome.value [] nothing) nothing) r
 
   opens_at : (p : Place) → Says is_free c.slots vacant p → listed_count c.slots < c.config.max_num_streams → c.next_id + 2 ≤ top → OpenOk (open_at p c now)
@@ -156,7 +145,7 @@ module _ (c : Conn) (v : Inv c) (i : ℕ) (held : (entry c.slots i).held ≡ tru
         (sym (put_same i [] (bytes_of c.slots)))
         (λ k ne. bytes_same c.slots j (removed_entry other) l.0 refl k ∙ sym (put_other i [] (bytes_of c.slots) k ne))
 
-  abbrev DropOk : Place → Result → Type 0
+  abbrev DropOk : Place → Effect → Type 0
   DropOk p r = Sound c (λ j. (i ≡ j) ⊎ (p ≡ at j)) (cond (is_done r.outcome.reply) (freed i) nothing) r
 
   drops-at : (p : Place) → Located c.slots dropping.stream.id p → DropOk p (drop_at p (Rattle.rules.specs.State.with_growth c (c.growth - growth_of dropping)) i)
@@ -177,10 +166,10 @@ module _ (c : Conn) (v : Inv c) (i : ℕ) (held : (entry c.slots i).held ≡ tru
 -- ---- tick
 
 module _ (c : Conn) (v : Inv c) where
-  pings-out : (p : NextPing) (d : Conn) → Inv d → d.config ≡ c.config → c.next_id ≤ d.next_id → (d.growth ≡ c.growth) ⊎ (moves nothing ≡ true) → ((j : ℕ) → bytes_of d.slots j ≡ bytes_of c.slots j) → Beside c (λ j. ⊥) d → Sound c (λ j. ⊥) nothing (ping_out p d)
+  pings-out : (p : Option Header) (d : Conn) → Inv d → d.config ≡ c.config → c.next_id ≤ d.next_id → (d.growth ≡ c.growth) ⊎ (moves nothing ≡ true) → ((j : ℕ) → bytes_of d.slots j ≡ bytes_of c.slots j) → Beside c (λ j. ⊥) d → Sound c (λ j. ⊥) nothing (ping_out p d)
   unfolding ping_out
-  pings-out ask.None d w k n g b s = done c _ _ _ _ refl refl w k n g b s
-  pings-out (ask.Ping h) d w k n g b s = done c _ _ _ _ refl refl w k n g b s
+  pings-out None d w k n g b s = done c _ _ _ _ refl refl w k n g b s
+  pings-out (Some h) d w k n g b s = done c _ _ _ _ refl refl w k n g b s
 
   pub ticks : (now : ℕ) → Sound c (λ j. ⊥) nothing (tick_rules c now)
   unfolding tick_rules

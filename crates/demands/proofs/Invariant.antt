@@ -1,13 +1,7 @@
 -- What every call keeps, and the laws by which one slot's change keeps it. Assumes nothing.
-use mathlib.Core.Path.{◌≡◌, refl, sym, ap, ◌∙◌}
-use mathlib.Core.Logic.{◌≢◌}
-use mathlib.Core.Bool.{Bool, true, false}
-use mathlib.Core.List.{List}
-use Prim.Native.Nat.{ℕ, ◌+◌, ◌*◌, ◌%◌, ◌≤◌, ◌<◌}
-use native.Mathlib.Omega.{arith}
-use native.Mathlib.Nat.{le_refl}
+use Rattle.std.proofs.Common.{◌≡◌, refl, sym, ap, ◌∙◌, ◌≢◌, Bool, true, false, List, ℕ, ◌+◌, ◌*◌, ◌%◌, ◌≤◌, ◌<◌, arith, le_refl, length, set, length-set}
 use native.Mathlib.Decide.{dec_lt}
-use lib.ListN.{length, set, length-set, get_or-eq_default}
+use lib.ListN.{get_or-eq_default}
 use Rattle.frame.specs.Header.{initial_window}
 use Rattle.frame.specs.declared.header.StreamId.{StreamId}
 use Rattle.flow_control.specs.Windows.{top}

@@ -1,15 +1,6 @@
 -- Frames for a known stream, and those that do nothing or break the protocol, keep the invariant. Assumes nothing.
-use mathlib.Core.Path.{◌≡◌, refl, sym, ap, ◌∙◌}
-use mathlib.Core.Logic.{inl}
-use mathlib.Core.Bool.{Bool, true, false, cond, not}
-use mathlib.Core.List.{List, [], ◌++◌, append-nil}
-use Prim.Native.Nat.{ℕ, ◌+◌, ◌-◌, ◌≤◌}
-use native.Mathlib.Omega.{arith}
-use native.Mathlib.Nat.{le_of_eq}
-use lib.ListN.{length, length-append}
-use lib.Seq.{get_or-set_other}
-use lib.Dec.{ltb, leb}
-use borrow.Author.Tests.{leb-true, ltb-false, not-false}
+use Rattle.std.proofs.Common.{Option, Some, None, ◌≡◌, refl, sym, ap, ◌∙◌, inl, Bool, true, false, cond, not, List, [], ◌++◌, append-nil, ℕ, ◌+◌, ◌-◌, ◌≤◌, arith, le_of_eq, length, length-append, get_or-set_other, ltb, leb, leb-true, ltb-false}
+use borrow.Author.Tests.{not-false}
 use Rattle.frame.specs.Header.{contains, fin, rst, protocol_error}
 use Rattle.frame.specs.declared.header.Header.{Header}
 use Rattle.frame.specs.declared.header.Credit.{Credit}
@@ -18,19 +9,15 @@ use Rattle.frame.specs.declared.header.Tag.TheVariants as tag
 use Rattle.flow_control.specs.Windows.{top, with_receive, with_send}
 use Rattle.flow_control.specs.declared.FlowController.{FlowController}
 use Rattle.stream.specs.States.{is_closed}
-use Rattle.stream.specs.Streams.{data_taken, update_taken}
+use Rattle.stream.specs.Streams.{data_taken, update_taken, received, invalid}
 use Rattle.stream.specs.declared.State.{State}
 use Rattle.stream.specs.declared.State.TheVariants.{Open, SendClosed, RecvClosed, Closed}
 use Rattle.stream.specs.declared.Stream.{Stream}
 use Rattle.stream.specs.declared.StreamWakes.{StreamWakes}
-use Rattle.stream.specs.declared.Received.TheVariants.{Taken, ProtocolError}
 use Rattle.rules.specs.declared.Reply.TheVariants as reply
-use Rattle.rules.specs.declared.Which.{Which}
-use Rattle.rules.specs.declared.Which.TheVariants as which
-use Rattle.rules.specs.declared.Value.TheVariants as value
 use Rattle.rules.specs.Lists.{Place, at, nowhere}
 use Rattle.rules.specs.State.{Entry, vacant, entry, room, with_slot}
-use Rattle.rules.specs.Ending.{Result}
+use Rattle.rules.specs.Ending.{Effect}
 use Rattle.rules.specs.Frames.{Acked, no_action, go_away, on_reset, reset_entry, taken_entry, take_at, known_data, known_update}
 use Rattle.demands.specs.History.{Event, nothing, tells, brought, by_tag, put}
 use Rattle.rules.proofs.Lists.{split}
@@ -38,6 +25,7 @@ use Rattle.demands.proofs.Lists.{true-not-false}
 use Rattle.demands.proofs.Invariant.{Flows, Good, Stays, held_good, stays}
 use Rattle.demands.proofs.Sound.{Sound, Beside, bytes_of, left, bytes-put, bytes_same, same_put, refused, done}
 use Rattle.demands.proofs.Acks.{Acks, is_listed}
+use Rattle.rules.specs.declared.Slot.{Slot}
 
 -- ---- small laws
 
@@ -52,9 +40,9 @@ leaves_closed : (b l : Bool) (s : State) → l ≡ true → cond b (not (is_clos
 leaves_closed true l s t e = closed-state s (not-false (is_closed s) e)
 leaves_closed false l s t e = true-not-false t e
 
-tells_none : (w : Which) (body : List ℕ) (e : Event) → tells w value.None body e ≡ e
-tells_none (which.At i) body e = refl
-tells_none which.None body e = refl
+tells_none : (w : Option Slot) (body : List ℕ) (e : Event) → tells w None body e ≡ e
+tells_none (Some i) body e = refl
+tells_none None body e = refl
 
 flows_received : (f : FlowController) (n m : ℕ) → m ≤ f.receive_window → Flows f n → Flows (with_receive f (f.receive_window - m)) (n + m)
 flows_received f n m h g = record { low = g.low; high = g.high; fits = omega (arith, g.fits); sends = g.sends }
@@ -65,14 +53,14 @@ flows_more f n k h g = record { low = g.low; high = g.high; fits = omega (arith,
 -- ---- the rules
 
 module _ (h : Header) (body : List ℕ) (a : Acked) where
-  abbrev pub Ok : Place → Tag → Result → Type 0
-  Ok place t r = Sound a.before (λ j. place ≡ at j) (by_tag t h body place r.outcome) r
+  abbrev pub Keeps : Place → Tag → Effect → Type 0
+  Keeps place t r = Sound a.before (λ j. place ≡ at j) (by_tag t h body place r.outcome) r
 
-  pub idle : (place : Place) → Acks a h.stream_id place → (t : Tag) → brought t h body place ≡ nothing → Ok place t (no_action a)
+  pub idle : (place : Place) → Acks a h.stream_id place → (t : Tag) → brought t h body place ≡ nothing → Keeps place t (no_action a)
   idle place k t e =
       done a.before _ _ _ a.conn refl refl k.inv k.config (le_of_eq (sym k.next)) (inl k.growth) (λ j. rw e (k.bytes j)) (λ q j h. k.beside j)
 
-  pub away : (place : Place) → Acks a h.stream_id place → (t : Tag) (code : ℕ) → Ok place t (go_away a code)
+  pub away : (place : Place) → Acks a h.stream_id place → (t : Tag) (code : ℕ) → Keeps place t (go_away a code)
   away place k t code =
       done a.before _ _ _ a.conn refl refl k.inv k.config (le_of_eq (sym k.next)) (inl k.growth) k.bytes (λ q j h. k.beside j)
 
@@ -96,7 +84,7 @@ module _ (h : Header) (body : List ℕ) (a : Acked) where
         room = omega (arith, k.inv.room);
       }
 
-  pub resets : (place : Place) → Acks a h.stream_id place → (t : Tag) → brought t h body place ≡ nothing → Ok place t (on_reset a place)
+  pub resets : (place : Place) → Acks a h.stream_id place → (t : Tag) → brought t h body place ≡ nothing → Keeps place t (on_reset a place)
   unfolding on_reset
   resets nowhere k t e = idle nowhere k t e
   resets (at i) k t e =
@@ -141,10 +129,10 @@ module _ (h : Header) (body : List ℕ) (a : Acked) where
     takes :
         (t : Tag) (w : StreamWakes) → Takes →
         ((j : ℕ) → put i (old.bytes ++ more) (bytes_of a.conn.slots) j ≡ left (brought t h body (at i)) (bytes_of a.before.slots) j) →
-        Ok (at i) t (take_at i a h more (Taken s w))
+        Keeps (at i) t (take_at i a h more (received s w))
     unfolding take_at
     takes t w f b =
-        split (Ok (at i) t) (ltb (room a.conn) (length more))
+        split (Keeps (at i) t) (ltb (room a.conn) (length more))
         (λ r. refused a.before _ _ k.before reply.NoRoom (λ j. refl))
         (λ r.
         done a.before _ _ _ _ refl refl (stays a.conn k.inv i taken a.conn.growth (taken-stays f r)) k.config (le_of_eq (sym k.next)) (inl k.growth)
@@ -152,12 +140,12 @@ module _ (h : Header) (body : List ℕ) (a : Acked) where
         (set-beside i taken k))
 
   -- an answer to a frame that a stream takes or that breaks the protocol
-  answers : (i : ℕ) → Acks a h.stream_id (at i) → (t : Tag) (more : List ℕ) (b : Bool) (s : Stream) (w : StreamWakes) → (b ≡ true → Ok (at i) t (take_at i a h more (Taken s w))) → Ok (at i) t (take_at i a h more (cond b (Taken s w) ProtocolError))
+  answers : (i : ℕ) → Acks a h.stream_id (at i) → (t : Tag) (more : List ℕ) (b : Bool) (s : Stream) (w : StreamWakes) → (b ≡ true → Keeps (at i) t (take_at i a h more (received s w))) → Keeps (at i) t (take_at i a h more (cond b (received s w) invalid))
   unfolding take_at
   answers i k t more true s w f = f refl
   answers i k t more false s w f = away (at i) k t protocol_error
 
-  pub known-data : contains h.flags rst ≡ false → (place : Place) → Acks a h.stream_id place → Ok place tag.Data (known_data a h body place)
+  pub known-data : contains h.flags rst ≡ false → (place : Place) → Acks a h.stream_id place → Keeps place tag.Data (known_data a h body place)
   unfolding known_data
   known-data n nowhere k = idle nowhere k tag.Data (rw n)
   known-data n (at i) k =
@@ -168,7 +156,7 @@ module _ (h : Header) (body : List ℕ) (a : Acked) where
       (refl, refl, flows_received e.stream.flow (length e.bytes) (length body) (leb-true _ _ t) (k.inv.good i).flows)
       (λ j. rw (n, k.bytes i, k.bytes j)))
 
-  pub known-update : (place : Place) → Acks a h.stream_id place → Ok place tag.WindowUpdate (known_update a h place)
+  pub known-update : (place : Place) → Acks a h.stream_id place → Keeps place tag.WindowUpdate (known_update a h place)
   unfolding known_update
   known-update nowhere k = idle nowhere k tag.WindowUpdate refl
   known-update (at i) k =

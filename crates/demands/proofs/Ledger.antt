@@ -1,26 +1,16 @@
 -- Accounts that balance with the windows, and the calls on handles that keep them so. Assumes nothing.
-use mathlib.Core.Path.{◌≡◌, refl, sym, subst}
-use mathlib.Core.Bool.{Bool, true, false, cond}
-use mathlib.Core.List.{List, map}
-use Prim.Native.Nat.{ℕ, ◌+◌, ◌-◌, ◌<◌, min}
-use native.Mathlib.Omega.{arith}
-use lib.ListN.{length, set, length-set}
-use lib.Dec.{eqb, ltb, leb}
-use borrow.Author.Tests.{eqb-true}
+use Rattle.std.proofs.Common.{Some, Option, None, ◌≡◌, refl, sym, subst, Bool, true, false, cond, List, map, ℕ, ◌+◌, ◌-◌, ◌<◌, min, arith, length, set, length-set, eqb, ltb, leb, eqb-true}
 use Rattle.frame.specs.Header.{initial_window, data_header, window_update_header, close_stream}
 use Rattle.frame.specs.declared.header.StreamId.{StreamId}
 use Rattle.frame.specs.declared.header.Credit.{Credit}
 use Rattle.flow_control.specs.Windows.{top, next_window_update, with_send}
 use Rattle.flow_control.specs.declared.FlowController.{FlowController}
 use Rattle.flow_control.specs.declared.Conditions.{Conditions}
-use Rattle.flow_control.specs.declared.Update.{Update}
-use Rattle.flow_control.specs.declared.Update.TheVariants as update
 use Rattle.flow_control.proofs.Laws.{credit_of, steps, credited}
 use Rattle.stream.specs.States.{can_read, can_write}
 use Rattle.stream.specs.Streams as stream
 use Rattle.stream.specs.declared.Flag.{Flag}
 use Rattle.stream.specs.declared.Flag.TheVariants as owed
-use Rattle.stream.specs.declared.Sent.TheVariants.{Frame}
 use Rattle.stream.specs.declared.State.{State}
 use Rattle.stream.specs.declared.State.TheVariants.{Open, SendClosed, RecvClosed, Closed}
 use Rattle.stream.specs.declared.Stream.{Stream}
@@ -28,7 +18,7 @@ use Rattle.stream.specs.declared.Updated.{Updated}
 use Rattle.stream.specs.declared.ReadEnd.TheVariants as reading
 use Rattle.rules.specs.Lists.{Place, at, nowhere}
 use Rattle.rules.specs.State.{Entry, Conn, vacant, entry, with_growth, is_free, has_id, find, lowest_free, listed_count, unacknowledged}
-use Rattle.rules.specs.Ending.{Result, end_entry}
+use Rattle.rules.specs.Ending.{Effect, end_entry}
 use Rattle.rules.specs.Calls.{read_rest, read_with, window_step, read_rules, write_with, write_rules, close_rules, open_at, open_rules, growth_of, removed_entry, drop_at, drop_rules}
 use Rattle.rules.proofs.Lists.{Says, first_says}
 use Rattle.demands.specs.History.{is_done, put}
@@ -38,6 +28,7 @@ use Rattle.demands.proofs.Lists.{at_set}
 use Rattle.demands.proofs.Invariant.{in_range}
 use Rattle.demands.proofs.Sound.{put_same, put_other, end_flow, at_end}
 use Rattle.demands.proofs.Acks.{Located}
+use Rattle.flow_control.specs.declared.Due.{Due}
 
 -- ---- accounts that balance
 
@@ -77,27 +68,27 @@ blank_balanced = (refl, refl)
 
 granted_flag : (f : Flag) (id : StreamId) (n : Credit) (a : Account) (x y : FlowController) → Balanced a x →
     y.receive_window ≡ x.receive_window + n.0 → y.send_window ≡ x.send_window →
-    Balanced (went_out (Frame (stream.add_flag f (window_update_header id n))) a) y
+    Balanced (went_out (Some (stream.add_flag f (window_update_header id n))) a) y
 granted_flag owed.None id n a x y h r s = (omega (arith, h.0, r), omega (arith, h.1, s))
 granted_flag owed.Syn id n a x y h r s = (omega (arith, h.0, r), omega (arith, h.1, s))
 granted_flag owed.Ack id n a x y h r s = (omega (arith, h.0, r), omega (arith, h.1, s))
 
 -- a window update carries what the receive window rises by
-updated : (s : Stream) (u : Update) (a : Account) (x y : FlowController) → Balanced a x →
+updated : (s : Stream) (u : Option Due) (a : Account) (x y : FlowController) → Balanced a x →
     y.receive_window ≡ x.receive_window + credit_of u → y.send_window ≡ x.send_window → Balanced (went_out (stream.update_frame s u) a) y
-updated s update.NotDue a x y h r e = (omega (arith, h.0, r), omega (arith, h.1, e))
-updated s (update.Due why n) a x y h r e = granted_flag s.flag s.id n a x y h r e
+updated s None a x y h r e = (omega (arith, h.0, r), omega (arith, h.1, e))
+updated s (Some d) a x y h r e = granted_flag s.flag s.id d.credit a x y h r e
 
 -- a Data frame carries what the send window falls by
 sent_flag : (f : Flag) (id : StreamId) (n : ℕ) (a : Account) (x y : FlowController) → Balanced a x →
     y.receive_window ≡ x.receive_window → y.send_window + n ≡ x.send_window →
-    Balanced (went_out (Frame (stream.add_flag f (data_header id (record { 0 = n })))) a) y
+    Balanced (went_out (Some (stream.add_flag f (data_header id (record { 0 = n })))) a) y
 sent_flag owed.None id n a x y h r s = (omega (arith, h.0, r), omega (arith, h.1, s))
 sent_flag owed.Syn id n a x y h r s = (omega (arith, h.0, r), omega (arith, h.1, s))
 sent_flag owed.Ack id n a x y h r s = (omega (arith, h.0, r), omega (arith, h.1, s))
 
 -- a FIN carries nothing
-fin-sent : (owes : Bool) (id : StreamId) (a : Account) (x : FlowController) → Balanced a x → Balanced (went_out (Frame (close_stream id owes)) a) x
+fin-sent : (owes : Bool) (id : StreamId) (a : Account) (x : FlowController) → Balanced a x → Balanced (went_out (Some (close_stream id owes)) a) x
 fin-sent true id a x h = (omega (arith, h.0), omega (arith, h.1))
 fin-sent false id a x h = (omega (arith, h.0), omega (arith, h.1))
 
@@ -108,7 +99,7 @@ module _ (c : Conn) (b : ℕ → Account) (h : Balance b c.slots) (i : ℕ) (hel
   old = entry c.slots i
 
   -- the account is booked by the frame that is given
-  abbrev Sends : Result → Type 0
+  abbrev Sends : Effect → Type 0
   Sends r = Balance (put i (went_out r.outcome.header (b i)) b) r.after.slots
 
   within : i < length c.slots
@@ -176,7 +167,7 @@ module _ (c : Conn) (b : ℕ → Account) (h : Balance b c.slots) (i : ℕ) (hel
 -- ---- handles that are made and dropped
 
 module _ (c : Conn) (b : ℕ → Account) (h : Balance b c.slots) where
-  abbrev Opens : Result → Type 0
+  abbrev Opens : Effect → Type 0
   Opens r = Balance (cond (is_done r.outcome.reply) (opened r.outcome.slot r.outcome.value blank b b) b) r.after.slots
 
   opens_at : (now : ℕ) (p : Place) → Says is_free c.slots vacant p → Opens (open_at p c now)
@@ -198,7 +189,7 @@ module _ (c : Conn) (b : ℕ → Account) (h : Balance b c.slots) where
       (λ t. opens_at now (lowest_free c.slots) (first_says is_free c.slots vacant))))
 
   module _ (i : ℕ) (held : (entry c.slots i).held ≡ true) where
-    abbrev Drops : Result → Type 0
+    abbrev Drops : Effect → Type 0
     Drops r = Balance (cond (is_done r.outcome.reply) (put i blank b) b) r.after.slots
 
     drops-at : (g : ℕ) (p : Place) → Located c.slots (entry c.slots i).stream.id p → Drops (drop_at p (with_growth c g) i)

@@ -1,23 +1,15 @@
 -- The ledger, proved. The statements are those of `specs/Ledger.antt`. Assumes nothing.
-use mathlib.Core.Path.{◌≡◌, refl}
-use mathlib.Core.Bool.{Bool, true, false, cond}
-use mathlib.Core.List.{List, [], ◌∷◌}
-use Prim.Native.Nat.{ℕ, suc, ◌+◌, ◌*◌, ◌≤◌}
-use native.Mathlib.Omega.{arith}
-use lib.ListN.{length}
-use lib.Dec.{ltb}
+use Rattle.std.proofs.Common.{Option, Some, None, Result, Ok, Err, ◌≡◌, refl, Bool, true, false, cond, List, [], ◌∷◌, ℕ, suc, ◌+◌, ◌*◌, ◌≤◌, arith, length, ltb}
 use Rattle.frame.specs.Header.{initial_window}
 use Rattle.frame.specs.Wire.{decoded}
-use Rattle.frame.specs.declared.header.Decoded.{Decoded}
-use Rattle.frame.specs.declared.header.Decoded.TheVariants as found
+use Rattle.frame.specs.declared.header.HeaderDecodeError.{HeaderDecodeError}
+use Rattle.frame.specs.declared.header.HeaderDecodeError.TheVariants as found
 use Rattle.rtt.specs.Pings.{next_ping}
-use Rattle.rtt.specs.declared.NextPing.{NextPing}
-use Rattle.rtt.specs.declared.NextPing.TheVariants as ask
 use Rattle.rules.specs.declared.Reply.TheVariants as reply
 use Rattle.rules.specs.Lists.{sum}
 use Rattle.rules.specs.Settings.{last_time}
 use Rattle.rules.specs.State.{Entry, Conn, vacant, entry, unread_total}
-use Rattle.rules.specs.Ending.{Result, refuse}
+use Rattle.rules.specs.Ending.{Effect, refuse}
 use Rattle.rules.specs.Frames.{ack_step, on_reset, make_at, make, syn_rules, syn_data, syn_update, data_rules, update_rules, pong_rules, ping_rules, frame_rules, on_header}
 use Rattle.rules.specs.Calls.{growth_of, read_rest, read_with, window_step, read_rules, write_with, write_rules, ping_out, tick_rules}
 use Rattle.rules.specs.Step.{on_decoded, step}
@@ -32,35 +24,36 @@ use Rattle.demands.proofs.Sound.{within}
 use Rattle.demands.proofs.Steps.{started, sound, reached}
 use Rattle.demands.proofs.Ledger.{Balance, account-changes, end_balance, blank_balanced, reads-balance, writes-balance, closes-balance, opens-balance, drops-balance}
 use Rattle.demands.proofs.LedgerFrames.{headers-balance}
+use Rattle.frame.specs.declared.header.Header.{Header}
 
 -- ---- a call
 
 module _ (c : Conn) (v : Inv c) (b : ℕ → Account) (h : Balance b c.slots) where
   -- a time and an ended connection, or a handle that is not held, are refused; else the rules decide
-  live-ok : (P : Result → Type 0) (now : ℕ) (next : Result) → P (refuse c reply.Time) → P (refuse c reply.Closed) → (c.ended ≡ false → P next) → P (rules.timed c now (rules.live c next))
+  live-ok : (P : Effect → Type 0) (now : ℕ) (next : Effect) → P (refuse c reply.Time) → P (refuse c reply.Closed) → (c.ended ≡ false → P next) → P (rules.timed c now (rules.live c next))
   live-ok P now next x y s = split P (ltb last_time now) (λ t. x) (λ t. split P c.ended (λ e. y) s)
 
-  holding-ok : (P : Result → Type 0) (now i : ℕ) (next : Result) → P (refuse c reply.Time) → P (refuse c reply.NotHeld) → ((entry c.slots i).held ≡ true → P next) → P (rules.timed c now (rules.holding c i next))
+  holding-ok : (P : Effect → Type 0) (now i : ℕ) (next : Effect) → P (refuse c reply.Time) → P (refuse c reply.NotHeld) → ((entry c.slots i).held ≡ true → P next) → P (rules.timed c now (rules.holding c i next))
   holding-ok P now i next x y s = split P (ltb last_time now) (λ t. x) (λ t. split P (entry c.slots i).held s (λ e. y))
 
-  ticks-out : (p : NextPing) (d : Conn) → Balance b d.slots → Balance b (ping_out p d).after.slots
+  ticks-out : (p : Option Header) (d : Conn) → Balance b d.slots → Balance b (ping_out p d).after.slots
   unfolding ping_out
-  ticks-out ask.None d w = w
-  ticks-out (ask.Ping x) d w = w
+  ticks-out None d w = w
+  ticks-out (Some x) d w = w
 
   ticks : (now : ℕ) → Balance b (tick_rules c now).after.slots
   unfolding tick_rules
   ticks now = ticks-out (next_ping c.pings now).ping _ h
 
-  decodes : (d : Decoded) (body : List ℕ) (now : ℕ) → Balance (booked_decoded d c body (on_decoded d c body now).outcome b) (on_decoded d c body now).after.slots
+  decodes : (d : Result Header HeaderDecodeError) (body : List ℕ) (now : ℕ) → Balance (booked_decoded d c body (on_decoded d c body now).outcome b) (on_decoded d c body now).after.slots
   unfolding on_decoded
-  decodes found.Size body now = h
-  decodes (found.Version n) body now = live-ok (λ r. Balance b r.after.slots) now _ h h (λ l. end_balance b c.slots h)
-  decodes (found.Type n) body now = live-ok (λ r. Balance b r.after.slots) now _ h h (λ l. end_balance b c.slots h)
-  decodes (found.Header x) body now =
-      live-ok (λ r. Balance (booked_decoded (found.Header x) c body r.outcome b) r.after.slots) now _ h h (λ l. headers-balance x body b c v l h now)
+  decodes (Err found.Size) body now = h
+  decodes (Err (found.Version n)) body now = live-ok (λ r. Balance b r.after.slots) now _ h h (λ l. end_balance b c.slots h)
+  decodes (Err (found.Type n)) body now = live-ok (λ r. Balance b r.after.slots) now _ h h (λ l. end_balance b c.slots h)
+  decodes (Ok x) body now =
+      live-ok (λ r. Balance (booked_decoded (Ok x) c body r.outcome b) r.after.slots) now _ h h (λ l. headers-balance x body b c v l h now)
 
-  abbrev Booked : rules.Call → Result → Type 0
+  abbrev Booked : rules.Call → Effect → Type 0
   Booked k r = Balance (booked c k r.outcome b) r.after.slots
 
   call-balances : (k : rules.Call) → Booked k (step c k)

@@ -1,22 +1,13 @@
 -- When a call gets 7 or 8, and how large a pool refuses no body. Assumes nothing.
-use mathlib.Core.Path.{◌≡◌, refl, ◌∙◌}
-use mathlib.Core.Logic.{◌⊎◌, inl, inr}
-use mathlib.Core.Bool.{Bool, true, false, cond, not}
-use mathlib.Core.List.{List}
-use Prim.Native.Nat.{ℕ, ◌+◌, ◌*◌, ◌≤◌, ◌<◌}
-use native.Mathlib.Omega.{arith}
-use lib.ListN.{length}
-use lib.Dec.{eqb, ltb, leb}
-use borrow.Author.Tests.{ltb-true, ltb-false, leb-true, leb-false, lt-ltb, le-ltb, lt-leb, le-leb}
+use Rattle.std.proofs.Common.{Option, Some, None, Result, Ok, Err, ◌≡◌, refl, ◌∙◌, ◌⊎◌, inl, inr, Bool, true, false, cond, not, List, ℕ, ◌+◌, ◌*◌, ◌≤◌, ◌<◌, arith, length, eqb, ltb, leb, ltb-true, ltb-false, leb-true, leb-false, lt-ltb, le-ltb, le-leb}
+use borrow.Author.Tests.{lt-leb}
 use Rattle.frame.specs.Header.{contains, syn, rst, initial_window}
 use Rattle.frame.specs.Wire.{decoded}
 use Rattle.frame.specs.declared.header.Header.{Header}
 use Rattle.frame.specs.declared.header.Tag.{Tag}
 use Rattle.frame.specs.declared.header.Tag.TheVariants as tag
-use Rattle.frame.specs.declared.header.Decoded.{Decoded}
-use Rattle.frame.specs.declared.header.Decoded.TheVariants as found
-use Rattle.rtt.specs.declared.NextPing.{NextPing}
-use Rattle.rtt.specs.declared.NextPing.TheVariants as ask
+use Rattle.frame.specs.declared.header.HeaderDecodeError.{HeaderDecodeError}
+use Rattle.frame.specs.declared.header.HeaderDecodeError.TheVariants as found
 use Rattle.flow_control.specs.Windows.{top}
 use Rattle.stream.specs.declared.Updated.{Updated}
 use Rattle.stream.specs.declared.ReadEnd.{ReadEnd}
@@ -28,7 +19,7 @@ use Rattle.rules.specs.declared.Reply.TheVariants as reply
 use Rattle.rules.specs.Settings.{last_time}
 use Rattle.rules.specs.Lists.{Place, at, nowhere}
 use Rattle.rules.specs.State.{Entry, Conn, vacant, entry, is_free, has_id, find, lowest_free, listed_count, unacknowledged, room}
-use Rattle.rules.specs.Ending.{Result, refuse}
+use Rattle.rules.specs.Ending.{Effect, refuse}
 use Rattle.rules.specs.Frames.{body_length}
 use Rattle.rules.specs.Calls.{open_at, open_rules, read_rest, read_with, read_rules, write_with, write_rules, close_rules, drop_at, drop_rules, ping_out, tick_rules}
 use Rattle.rules.specs.Step.{step}
@@ -47,17 +38,17 @@ use Rattle.demands.proofs.Exact.{Limits, Neither, AllInUse, neither, seven_is, e
 
 -- ---- calls that get neither
 
-abbrev Plain : Result → Type 0
+abbrev Plain : Effect → Type 0
 Plain r = Neither r.outcome.reply
 
 module _ (c : Conn) where
-  timed-plain : (now : ℕ) (next : Result) → Plain next → Plain (rules.timed c now next)
+  timed-plain : (now : ℕ) (next : Effect) → Plain next → Plain (rules.timed c now next)
   timed-plain now next p = split Plain (ltb last_time now) (λ t. (refl, refl)) (λ t. p)
 
-  live-plain : (next : Result) → Plain next → Plain (rules.live c next)
+  live-plain : (next : Effect) → Plain next → Plain (rules.live c next)
   live-plain next p = split Plain c.ended (λ t. (refl, refl)) (λ t. p)
 
-  holding-plain : (i : ℕ) (next : Result) → Plain next → Plain (rules.holding c i next)
+  holding-plain : (i : ℕ) (next : Effect) → Plain next → Plain (rules.holding c i next)
   holding-plain i next p = split Plain (entry c.slots i).held (λ t. p) (λ t. (refl, refl))
 
   read_plain : (i : ℕ) (e : Entry) (u : Updated) (n : ℕ) (r : ReadEnd) → Plain (read_rest c i e u n r)
@@ -76,10 +67,10 @@ unfolding drop_at
 drop-plain c i nowhere = (refl, refl)
 drop-plain c i (at j) = (refl, refl)
 
-tick_plain : (c : Conn) (p : NextPing) → Plain (ping_out p c)
+tick_plain : (c : Conn) (p : Option Header) → Plain (ping_out p c)
 unfolding ping_out
-tick_plain c ask.None = (refl, refl)
-tick_plain c (ask.Ping h) = (refl, refl)
+tick_plain c None = (refl, refl)
+tick_plain c (Some h) = (refl, refl)
 
 plain : {full : Type 0} (q : Reply) → Neither q → Limits ((false ≡ true) × full) ⊥ q
 plain q n = neither (λ x. true-not-false x.0 refl) (λ x. x) q n
@@ -87,7 +78,7 @@ plain q n = neither (λ x. true-not-false x.0 refl) (λ x. x) q n
 -- ---- an open
 
 module _ (c : Conn) (v : Inv c) (now : ℕ) where
-  abbrev OpenOk : Result → Type 0
+  abbrev OpenOk : Effect → Type 0
   OpenOk r = Limits ((open_passes c now ≡ true) × AllInUse c) ⊥ r.outcome.reply
 
   -- an open that does not pass
@@ -173,11 +164,11 @@ module _ (c : Conn) (v : Inv c) (body : List ℕ) where
   tag-for h tag.Ping e = true-not-false e refl
   tag-for h tag.GoAway e = true-not-false e refl
 
-  pub queued-for : (now : ℕ) (d : Decoded) → ruled d c now body (λ h. queues_as h.tag c h body) ≡ true → For c body (ruled d c now body (λ h. opens_as h.tag c h body))
-  queued-for now found.Size e = true-not-false e refl
-  queued-for now (found.Version n) e = true-not-false e refl
-  queued-for now (found.Type n) e = true-not-false e refl
-  queued-for now (found.Header h) e =
+  pub queued-for : (now : ℕ) (d : Result Header HeaderDecodeError) → ruled d c now body (λ h. queues_as h.tag c h body) ≡ true → For c body (ruled d c now body (λ h. opens_as h.tag c h body))
+  queued-for now (Err found.Size) e = true-not-false e refl
+  queued-for now (Err (found.Version n)) e = true-not-false e refl
+  queued-for now (Err (found.Type n)) e = true-not-false e refl
+  queued-for now (Ok h) e =
       let timely = both (leb now last_time) _ e in
       let lives = both (not c.ended) _ timely.1 in
       let long = both (eqb (length body) (body_length h.tag h.length.0)) _ lives.1 in

@@ -1,15 +1,5 @@
 -- A frame that makes a stream keeps the invariant. Assumes nothing.
-use mathlib.Core.Path.{◌≡◌, refl, sym, ap, ◌∙◌}
-use mathlib.Core.Logic.{inl}
-use mathlib.Core.Bool.{Bool, true, false, cond}
-use mathlib.Core.List.{List}
-use Prim.Native.Nat.{ℕ, ◌%◌, ◌<◌}
-use native.Mathlib.Omega.{arith}
-use native.Mathlib.Nat.{le_refl, le_of_eq}
-use lib.ListN.{length}
-use lib.Seq.{get_or-set_other}
-use lib.Dec.{ltb, leb}
-use borrow.Author.Tests.{eqb-true, leb-false, ltb-false, eq-eqb}
+use Rattle.std.proofs.Common.{◌≡◌, refl, sym, ap, ◌∙◌, inl, Bool, true, false, cond, List, ℕ, ◌%◌, ◌<◌, arith, le_refl, le_of_eq, length, get_or-set_other, ltb, leb, eqb-true, leb-false, ltb-false, eq-eqb}
 use Rattle.frame.specs.Header.{initial_window, protocol_error}
 use Rattle.frame.specs.declared.header.Header.{Header}
 use Rattle.frame.specs.declared.header.StreamId.{StreamId}
@@ -20,7 +10,7 @@ use Rattle.rules.specs.declared.Mode.{Mode}
 use Rattle.rules.specs.declared.Mode.TheVariants.{Client, Server}
 use Rattle.rules.specs.Lists.{Place, at, nowhere}
 use Rattle.rules.specs.State.{Entry, vacant, entry, is_free, is_own, is_remote, has_id, lowest_free, listed_count, room, with_slot}
-use Rattle.rules.specs.Ending.{Result}
+use Rattle.rules.specs.Ending.{Effect}
 use Rattle.rules.specs.Frames.{Acked, new_entry, make_at, make, syn_rules}
 use Rattle.rules.specs.Calls.{growth_of}
 use Rattle.rules.proofs.Lists.{Says, first_says}
@@ -29,7 +19,7 @@ use Rattle.demands.proofs.Lists.{true-not-false}
 use Rattle.demands.proofs.Invariant.{Flows, Good, Fit, id_at, held_good, in_range, replaced}
 use Rattle.demands.proofs.Sound.{Beside, bytes-put, refused, done}
 use Rattle.demands.proofs.Acks.{Acks}
-use Rattle.demands.proofs.Known.{Ok, away}
+use Rattle.demands.proofs.Known.{Keeps, away}
 
 -- ---- small laws
 
@@ -86,34 +76,34 @@ module _ (h : Header) (body : List ℕ) (a : Acked) where
         let same = k.beside j n in
         get_or-set_other a.conn.slots i j fresher vacant (λ e. true-not-false held (ap (λ (x : Entry). x.held) (sym same ∙ ap (λ (m : ℕ). entry a.conn.slots m) e ∙ free))) ∙ same
 
-    makes-at : (t : Tag) (p : Place) → Says is_free a.conn.slots vacant p → Ok h body a nowhere t (make_at p a s body)
+    makes-at : (t : Tag) (p : Place) → Says is_free a.conn.slots vacant p → Keeps h body a nowhere t (make_at p a s body)
     unfolding make_at
     makes-at t nowhere f = refused a.before _ _ k.before reply.NoSlot (λ j. refl)
     makes-at t (at i) f =
         let free = (k.inv.good i).free (free_held (entry a.conn.slots i).held f.1) in
-        split (Ok h body a nowhere t) (ltb (room a.conn) (length body))
+        split (Keeps h body a nowhere t) (ltb (room a.conn) (length body))
         (λ r. refused a.before _ _ k.before reply.NoRoom (λ j. refl))
         (λ r.
         done a.before _ _ _ _ refl refl (replaced a.conn k.inv i f.0 fresher a.conn.growth a.conn.next_id (fresh-fit i f.0 free r)) k.config (le_of_eq (sym k.next)) (inl k.growth)
         (λ j. bytes-put a.conn.slots i fresher f.0 j ∙ rw (k.bytes j))
         (fresh-beside i free))
 
-    pub makes : (t : Tag) → Ok h body a nowhere t (make a s body)
+    pub makes : (t : Tag) → Keeps h body a nowhere t (make a s body)
     unfolding make
     makes t = makes-at t (lowest_free a.conn.slots) (first_says is_free a.conn.slots vacant)
 
   -- the tests of a SYN
   pub syns :
-      (t : Tag) (place : Place) → Acks a h.stream_id place → (full : ℕ) (next : Result) →
-      (place ≡ nowhere → is_remote a.conn.config.mode h.stream_id ≡ true → listed_count a.conn.slots < a.conn.config.max_num_streams → Ok h body a place t next) →
-      Ok h body a place t (syn_rules a h.stream_id place full next)
+      (t : Tag) (place : Place) → Acks a h.stream_id place → (full : ℕ) (next : Effect) →
+      (place ≡ nowhere → is_remote a.conn.config.mode h.stream_id ≡ true → listed_count a.conn.slots < a.conn.config.max_num_streams → Keeps h body a place t next) →
+      Keeps h body a place t (syn_rules a h.stream_id place full next)
   unfolding syn_rules
   syns t (at i) k full next f =
-      split (Ok h body a (at i) t) (is_remote a.conn.config.mode h.stream_id) (λ r. away h body a (at i) k t protocol_error) (λ r. away h body a (at i) k t protocol_error)
+      split (Keeps h body a (at i) t) (is_remote a.conn.config.mode h.stream_id) (λ r. away h body a (at i) k t protocol_error) (λ r. away h body a (at i) k t protocol_error)
   syns t nowhere k full next f =
-      split (Ok h body a nowhere t) (is_remote a.conn.config.mode h.stream_id)
+      split (Keeps h body a nowhere t) (is_remote a.conn.config.mode h.stream_id)
       (λ r.
-      split (Ok h body a nowhere t) (leb a.conn.config.max_num_streams (listed_count a.conn.slots))
+      split (Keeps h body a nowhere t) (leb a.conn.config.max_num_streams (listed_count a.conn.slots))
       (λ m. away h body a nowhere k t full)
       (λ m. f refl r (leb-false _ _ m)))
       (λ r. away h body a nowhere k t protocol_error)

@@ -1,15 +1,6 @@
 -- What calls on a handle, open and tick do to the marks of those who wait. Assumes nothing.
-use mathlib.Core.Path.{◌≡◌, refl, sym, subst}
-use mathlib.Core.Logic.{inl, inr}
-use mathlib.Core.Bool.{Bool, true, false, cond}
-use mathlib.Core.List.{List}
-use Prim.Native.Nat.{ℕ, ◌+◌, ◌-◌, ◌<◌, min}
-use lib.ListN.{length, set, length-set}
-use lib.Seq.{get_or-set_same}
-use lib.Dec.{eqb, ltb, leb}
+use Rattle.std.proofs.Common.{Option, Some, None, ◌≡◌, refl, sym, subst, inl, inr, Bool, true, false, cond, List, ℕ, ◌+◌, ◌-◌, ◌<◌, min, length, set, length-set, get_or-set_same, eqb, ltb, leb}
 use Rattle.rtt.specs.Pings.{next_ping}
-use Rattle.rtt.specs.declared.NextPing.{NextPing}
-use Rattle.rtt.specs.declared.NextPing.TheVariants as ask
 use Rattle.flow_control.specs.Windows.{top}
 use Rattle.stream.specs.States.{can_read, can_write}
 use Rattle.stream.specs.Streams as stream
@@ -21,7 +12,7 @@ use Rattle.stream.specs.declared.ReadEnd.TheVariants as reading
 use Rattle.rules.specs.declared.Reply.TheVariants as reply
 use Rattle.rules.specs.Lists.{Place, at, nowhere}
 use Rattle.rules.specs.State.{Entry, Conn, vacant, entry, has_id, find, lowest_free, listed_count, unacknowledged, with_stream, with_growth, with_pings}
-use Rattle.rules.specs.Ending.{Result}
+use Rattle.rules.specs.Ending.{Effect}
 use Rattle.rules.specs.Calls.{growth_of, open_at, open_rules, read_entry, read_rest, read_with, window_step, read_rules, write_with, write_rules, close_rules, removed_entry, drop_at, drop_rules, ping_out, tick_rules}
 use Rattle.rules.proofs.Lists.{first_says}
 use Rattle.rules.proofs.Lists.{split}
@@ -29,6 +20,7 @@ use Rattle.demands.proofs.Lists.{at_set}
 use Rattle.demands.proofs.Invariant.{in_range}
 use Rattle.demands.proofs.Acks.{Located, SameWaits}
 use Rattle.demands.proofs.Marks.{clear_kept, clear_set, clear_off, Marks, Goes, Waits, stay, same_marks, idle, refused, calm, itself, none}
+use Rattle.frame.specs.declared.header.Header.{Header}
 
 -- ---- calls on a handle
 
@@ -42,7 +34,7 @@ module _ (c : Conn) (i : ℕ) (held : (entry c.slots i).held ≡ true) where
   abbrev mine : ℕ → Type 0
   mine j = i ≡ j
 
-  abbrev Calm : Result → Type 0
+  abbrev Calm : Effect → Type 0
   Calm r = Goes c nowhere own mine r
 
   -- the slot's stream keeps its marks, or takes one
@@ -112,7 +104,7 @@ module _ (c : Conn) (i : ℕ) (held : (entry c.slots i).held ≡ true) where
 
   -- ---- drop
 
-  abbrev DropOk : Place → Result → Type 0
+  abbrev DropOk : Place → Effect → Type 0
   DropOk p r = Goes c p own none r
 
   -- the stream that was removed waits no more, also where it is the handle's own and its slot is free
@@ -148,7 +140,7 @@ module _ (c : Conn) (i : ℕ) (held : (entry c.slots i).held ≡ true) where
 -- ---- open and tick
 
 module _ (c : Conn) (live : c.ended ≡ false) where
-  abbrev Free : Result → Type 0
+  abbrev Free : Effect → Type 0
   Free r = Waits c nowhere itself none r
 
   open-at : (now : ℕ) (p : Place) → Goes c nowhere itself none (open_at p c now)
@@ -165,10 +157,10 @@ module _ (c : Conn) (live : c.ended ≡ false) where
       (λ u.
       split Free (ltb top (c.next_id + 2)) (λ t. inl (live, (reply.NoMoreStreamIds, refl))) (λ t. inr (open-at now (lowest_free c.slots)))))
 
-  ticks-out : (p : NextPing) (d : Conn) → d.ended ≡ c.ended → d.open_wait ≡ c.open_wait → d.slots ≡ c.slots → Goes c nowhere itself none (ping_out p d)
+  ticks-out : (p : Option Header) (d : Conn) → d.ended ≡ c.ended → d.open_wait ≡ c.open_wait → d.slots ≡ c.slots → Goes c nowhere itself none (ping_out p d)
   unfolding ping_out
-  ticks-out ask.None d e w s = idle c itself none nowhere _ d refl e w s
-  ticks-out (ask.Ping h) d e w s = idle c itself none nowhere _ d refl e w s
+  ticks-out None d e w s = idle c itself none nowhere _ d refl e w s
+  ticks-out (Some h) d e w s = idle c itself none nowhere _ d refl e w s
 
   pub ticks : (now : ℕ) → Free (tick_rules c now)
   unfolding tick_rules

@@ -1,10 +1,5 @@
 -- Pings are answered, pongs are taken and ticks send. Assumes nothing.
-use mathlib.Core.Path.{◌≡◌, refl, ap}
-use mathlib.Core.Logic.{inl, inr}
-use mathlib.Core.Bool.{Bool, true}
-use mathlib.Core.List.{[]}
-use native.Mathlib.Omega.{arith}
-use borrow.Author.Tests.{eq-eqb, le-leb}
+use Rattle.std.proofs.Common.{◌≡◌, refl, ap, inl, inr, Bool, true, [], arith, eq-eqb, le-leb}
 use Rattle.frame.specs.Header.{session}
 use Rattle.frame.specs.declared.header.StreamId.{StreamId}
 use Rattle.frame.specs.declared.header.Tag.TheVariants as tag

@@ -1,14 +1,6 @@
 -- What the rules allow is done. Assumes nothing.
-use mathlib.Core.Path.{◌≡◌, refl, sym, ap, ◌∙◌, subst}
-use mathlib.Core.Logic.{◌≢◌, ◌⊎◌, inl, inr}
-use mathlib.Core.Bool.{Bool, true, false, cond, not}
-use mathlib.Core.List.{List, [], ◌++◌, append-nil}
-use Prim.Native.Nat.{ℕ, ◌+◌, ◌≤◌, ◌<◌}
-use native.Mathlib.Omega.{arith}
-use lib.ListN.{length}
-use lib.Seq.{get_or-set_same}
-use lib.Dec.{eqb}
-use borrow.Author.Tests.{leb-true, le-leb, lt-leb, le-ltb, ne_eqb}
+use Rattle.std.proofs.Common.{Some, ◌≡◌, refl, sym, ap, ◌∙◌, subst, ◌≢◌, ◌⊎◌, inl, inr, Bool, true, false, cond, not, List, [], ◌++◌, append-nil, ℕ, ◌+◌, ◌≤◌, ◌<◌, arith, length, get_or-set_same, eqb, leb-true, le-leb, le-ltb, ne_eqb}
+use borrow.Author.Tests.{lt-leb}
 use Rattle.frame.specs.Header.{initial_window, data_header, contains, syn, rst, fin, protocol_error, internal_error}
 use Rattle.frame.specs.declared.header.Header.{Header}
 use Rattle.frame.specs.declared.header.StreamId.{StreamId}
@@ -23,11 +15,10 @@ use Rattle.stream.specs.declared.State.{State}
 use Rattle.stream.specs.declared.State.TheVariants.{Open, SendClosed, RecvClosed, Closed}
 use Rattle.stream.specs.declared.Flag.{Flag}
 use Rattle.stream.specs.declared.Flag.TheVariants as owed
-use Rattle.rules.specs.declared.Which.TheVariants as which
 use Rattle.rules.specs.Replies.{Outcome}
 use Rattle.rules.specs.Lists.{Place, at, nowhere}
 use Rattle.rules.specs.State.{Entry, Conn, vacant, entry, is_free, lowest_free, room}
-use Rattle.rules.specs.Ending.{Result}
+use Rattle.rules.specs.Ending.{Effect}
 use Rattle.rules.specs.Frames.{Acked, ack_step, whose, reset_entry, on_reset, taken_entry, opened_by, syn_data, syn_update, known_data, known_update, data_rules, update_rules, frame_rules}
 use Rattle.rules.specs.Calls.{open_at, open_rules, write_with, write_rules, close_rules}
 use Rattle.rules.specs.Step.{step}
@@ -70,7 +61,7 @@ module _ (h : Header) (i : ℕ) (a : Acked) (k : Acks a h.stream_id (at i)) (s :
       ))
 
   -- a writer that is woken has its slot told
-  told : (reader writer : Bool) → writer ≡ true → whose (stream.wakes reader writer) i ≡ which.At (record { 0 = i })
+  told : (reader writer : Bool) → writer ≡ true → whose (stream.wakes reader writer) i ≡ Some (record { 0 = i })
   told true writer e = refl
   told false writer e = rw e
 
@@ -171,7 +162,7 @@ update_is_opened c m now head h d e t live o left =
 
 -- ---- an open
 
-abbrev Given : Conn → ℕ → Result → Type 0
+abbrev Given : Conn → ℕ → Effect → Type 0
 Given c now = Makes c (stream.new_outbound (record { 0 = c.next_id }) now) []
 
 given_at : (c : Conn) (now : ℕ) → held_count c.slots < length c.slots → (p : Place) → Says is_free c.slots vacant p → lowest_free c.slots ≡ p → Given c now (open_at p c now)

@@ -1,14 +1,6 @@
 -- What is shown of every call, and its proof for the answers that all rules share. Assumes nothing.
-use mathlib.Core.Path.{◌≡◌, refl, sym, ap, ◌∙◌, subst}
-use mathlib.Core.Logic.{◌≢◌, ◌⊎◌, inl}
-use mathlib.Core.Bool.{Bool, true, false, cond}
-use mathlib.Core.List.{List, [], ◌++◌, map}
-use Prim.Native.Nat.{ℕ, ◌+◌, ◌*◌, ◌≤◌, ◌<◌}
-use native.Mathlib.Omega.{arith}
-use native.Mathlib.Nat.{le_refl}
-use lib.ListN.{length, set, drop, length-map}
-use lib.Dec.{eqb}
-use borrow.Author.Tests.{eqb-true, eq-eqb, ne_eqb}
+use Rattle.std.proofs.Common.{◌≡◌, refl, sym, ap, ◌∙◌, subst, ◌≢◌, ◌⊎◌, inl, Bool, true, false, cond, List, [], ◌++◌, map, ℕ, ◌+◌, ◌*◌, ◌≤◌, ◌<◌, arith, le_refl, length, set, drop, eqb, eqb-true, eq-eqb, ne_eqb}
+use lib.ListN.{length-map}
 use Rattle.frame.specs.Header.{initial_window}
 use Rattle.stream.specs.Streams.{closed, with_waits}
 use Rattle.stream.specs.declared.Stream.{Stream}
@@ -17,7 +9,7 @@ use Rattle.rules.specs.declared.Reply.{Reply}
 use Rattle.rules.specs.Lists.{sum}
 use Rattle.rules.specs.Replies.{Outcome, leaves_all, may_give}
 use Rattle.rules.specs.State.{Entry, Conn, vacant, entry, one, is_own, unread_total}
-use Rattle.rules.specs.Ending.{Result, gives, refuse, end, ended, end_entry}
+use Rattle.rules.specs.Ending.{Effect, gives, refuse, end, ended, end_entry}
 use Rattle.rules.specs.Calls.{growth_of}
 use Rattle.demands.specs.Demands.{held_count}
 use Rattle.demands.specs.History.{Event, nothing, made, accepted, gave_out, freed, put}
@@ -76,7 +68,7 @@ moves (freed i) = true
 abbrev pub Beside : Conn → (ℕ → Type 0) → Conn → Type 0
 Beside c About d = d.ended ≡ c.ended → (j : ℕ) → (entry c.slots j).held ≡ true → (About j → ⊥) → entry d.slots j ≡ entry c.slots j
 
-pub record Sound (c : Conn) (About : ℕ → Type 0) (e : Event) (r : Result) : Type 0 where
+pub record Sound (c : Conn) (About : ℕ → Type 0) (e : Event) (r : Effect) : Type 0 where
   pub inv : Inv r.after
   pub config : r.after.config ≡ c.config
   pub next : c.next_id ≤ r.after.next_id

@@ -1,18 +1,10 @@
 -- A stale handle and the newer stream of its number. Assumes nothing.
-use mathlib.Core.Path.{◌≡◌, refl, sym, ap, ◌∙◌, subst}
-use mathlib.Core.Logic.{◌≢◌}
-use mathlib.Core.Bool.{Bool, true, false, cond}
-use mathlib.Core.List.{List, []}
-use Prim.Native.Nat.{ℕ, ◌-◌, ◌≤◌, ◌<◌, min}
-use native.Mathlib.Omega.{arith}
-use lib.ListN.{length, set, length-set, take}
-use lib.Seq.{get_or-set_same, get_or-set_other, set-get_or}
-use lib.Dec.{eqb}
-use borrow.Author.Tests.{eq-eqb}
+use Rattle.std.proofs.Common.{Some, None, Result, Ok, Err, ◌≡◌, refl, sym, ap, ◌∙◌, subst, ◌≢◌, Bool, true, false, cond, List, [], ℕ, ◌-◌, ◌≤◌, ◌<◌, min, arith, length, set, length-set, take, get_or-set_same, get_or-set_other, eqb, eq-eqb}
+use lib.Seq.{set-get_or}
 use Rattle.frame.specs.declared.header.StreamId.{StreamId}
 use Rattle.frame.specs.Wire.{decoded}
-use Rattle.frame.specs.declared.header.Decoded.{Decoded}
-use Rattle.frame.specs.declared.header.Decoded.TheVariants as found
+use Rattle.frame.specs.declared.header.HeaderDecodeError.{HeaderDecodeError}
+use Rattle.frame.specs.declared.header.HeaderDecodeError.TheVariants as found
 use Rattle.stream.specs.States.{can_read, can_write}
 use Rattle.stream.specs.Streams as stream
 use Rattle.stream.specs.declared.State.{State}
@@ -20,14 +12,11 @@ use Rattle.stream.specs.declared.State.TheVariants.{Closed}
 use Rattle.stream.specs.declared.Updated.{Updated}
 use Rattle.stream.specs.declared.ReadEnd.{ReadEnd}
 use Rattle.stream.specs.declared.Written.{Written}
-use Rattle.stream.specs.declared.Sent.TheVariants.{Nothing}
-use Rattle.stream.specs.declared.Step.TheVariants.{Skipped}
 use Rattle.rules.specs.declared.Reply.TheVariants as reply
-use Rattle.rules.specs.declared.Value.TheVariants as value
 use Rattle.rules.specs.Settings.{last_time}
 use Rattle.rules.specs.Lists.{Place, at, nowhere}
 use Rattle.rules.specs.State.{Entry, Conn, vacant, entry, has_id, find, with_slot, with_slots, with_stream, with_growth}
-use Rattle.rules.specs.Ending.{Result, gives, refuse}
+use Rattle.rules.specs.Ending.{Effect, gives, refuse}
 use Rattle.rules.specs.Calls.{growth_of, on_slot, read_entry, read_rest, read_with, window_step, read_rules, write_with, write_rules, close_rules, removed_entry, drop_at, drop_rules}
 use Rattle.rules.specs.Step.{step}
 use Rattle.rules.specs.Step as rules
@@ -39,6 +28,7 @@ use Rattle.demands.proofs.Invariant.{Inv, in_range}
 use Rattle.demands.proofs.Acks.{is_listed, is_id}
 use Rattle.demands.proofs.Steps.{sound, reached}
 use Rattle.demands.proofs.Answers.{timely, holds}
+use Rattle.frame.specs.declared.header.Header.{Header}
 
 -- with a stream in the table the connection goes on
 pub listed_live : (c : Conn) → Inv c → (i : ℕ) → (entry c.slots i).listed ≡ true → c.ended ≡ false
@@ -120,7 +110,7 @@ module _ (c : Conn) (old new : ℕ) (s : Stale c old new) where
   unreadable : can_read older.stream.state ≡ false
   unreadable = ap can_read closed
 
-  no-window : (now : ℕ) → window_step c older now ≡ record { stream = older.stream; growth = c.growth; step = Skipped; sent = Nothing }
+  no-window : (now : ℕ) → window_step c older now ≡ record { stream = older.stream; growth = c.growth; step = None; sent = None }
   unfolding window_step
   no-window now = rw unreadable
 
@@ -128,11 +118,11 @@ module _ (c : Conn) (old new : ℕ) (s : Stale c old new) where
   ends-done true b w d e = rw e
   ends-done false b w d e = refl
 
-  stale-rest : (n : ℕ) (u : Updated) → u ≡ record { stream = older.stream; growth = c.growth; step = Skipped; sent = Nothing } →
-      read_rest c old older u n (stream.read_end u.stream n) ≡ gives (on_slot old reply.Done (value.Of n) Nothing (take n older.bytes)) (with_slot c old (read_entry older older.stream n))
+  stale-rest : (n : ℕ) (u : Updated) → u ≡ record { stream = older.stream; growth = c.growth; step = None; sent = None } →
+      read_rest c old older u n (stream.read_end u.stream n) ≡ gives (on_slot old reply.Done (Some n) None (take n older.bytes)) (with_slot c old (read_entry older older.stream n))
   unfolding read_rest
   stale-rest n u e =
-      rw e (ap (λ (r : ReadEnd). read_rest c old older (record { stream = older.stream; growth = c.growth; step = Skipped; sent = Nothing }) n r)
+      rw e (ap (λ (r : ReadEnd). read_rest c old older (record { stream = older.stream; growth = c.growth; step = None; sent = None }) n r)
       (ends-done (eqb n 0) (can_read older.stream.state) _ _ unreadable))
 
   read-goes-on : cond c.ended (cond c.config.read_after_close false true) false ≡ false
@@ -140,12 +130,12 @@ module _ (c : Conn) (old new : ℕ) (s : Stale c old new) where
 
   pub stale-reads : (now asked : ℕ) → now ≤ last_time →
       let n = min asked (length older.bytes) in
-      step c (rules.read now old asked) ≡ gives (on_slot old reply.Done (value.Of n) Nothing (take n older.bytes)) (with_slot c old (read_entry older older.stream n))
+      step c (rules.read now old asked) ≡ gives (on_slot old reply.Done (Some n) None (take n older.bytes)) (with_slot c old (read_entry older older.stream n))
   unfolding step read_rules read_with
   stale-reads now asked t =
       let n = min asked (length older.bytes) in
       timely c now _ t ∙ holds c old _ s.held
-      ∙ split (λ (r : Result). r ≡ gives (on_slot old reply.Done (value.Of n) Nothing (take n older.bytes)) (with_slot c old (read_entry older older.stream n)))
+      ∙ split (λ (r : Effect). r ≡ gives (on_slot old reply.Done (Some n) None (take n older.bytes)) (with_slot c old (read_entry older older.stream n)))
       (cond c.ended (cond c.config.read_after_close false true) false)
       (λ d. true-not-false d read-goes-on)
       (λ d. stale-rest n (window_step c older now) (no-window now))
@@ -154,18 +144,18 @@ module _ (c : Conn) (old new : ℕ) (s : Stale c old new) where
   unfolding step write_rules write_with
   stale-writes now given t =
       timely c now _ t ∙ holds c old _ s.held
-      ∙ split (λ (r : Result). r ≡ refuse c reply.WriteClosed) c.ended (λ e. refl)
+      ∙ split (λ (r : Effect). r ≡ refuse c reply.WriteClosed) c.ended (λ e. refl)
       (λ e.
       split (λ (w : Written). write_with c old older given w ≡ refuse c reply.WriteClosed) (can_write older.stream.state)
       (λ w. true-not-false w (ap can_write closed))
       (λ w. refl))
 
-  pub stale-closes : (now : ℕ) → now ≤ last_time → step c (rules.close now old) ≡ gives (on_slot old reply.Done value.None Nothing []) c
+  pub stale-closes : (now : ℕ) → now ≤ last_time → step c (rules.close now old) ≡ gives (on_slot old reply.Done None None []) c
   unfolding step close_rules
   stale-closes now t =
       timely c now _ t ∙ holds c old _ s.held
-      ∙ ap (λ (q : State). let k = stream.close_in q older.stream in gives (on_slot old reply.Done value.None k.sent []) (with_slot c old (with_stream older k.stream))) closed
-      ∙ ap (λ (es : List Entry). gives (on_slot old reply.Done value.None Nothing []) (with_slots c es)) (set-get_or c.slots old vacant)
+      ∙ ap (λ (q : State). let k = stream.close_in q older.stream in gives (on_slot old reply.Done None k.sent []) (with_slot c old (with_stream older k.stream))) closed
+      ∙ ap (λ (es : List Entry). gives (on_slot old reply.Done None None []) (with_slots c es)) (set-get_or c.slots old vacant)
 
   -- ---- dropped
 
@@ -192,7 +182,7 @@ module _ (c : Conn) (old new : ℕ) (s : Stale c old new) where
 
   pub stale-after : (now : ℕ) → now ≤ last_time → (step c (rules.drop now old)).after ≡ dropped-conn
   unfolding drop_at
-  stale-after now t = ap (λ (r : Result). r.after) (stale-drop-is now t)
+  stale-after now t = ap (λ (r : Effect). r.after) (stale-drop-is now t)
 
   dropped-kept : Inv dropped-conn
   dropped-kept = subst Inv (stale-after 0 (omega arith)) (sound c v (rules.drop 0 old)).inv
@@ -253,11 +243,11 @@ new_drop c old new s now t = drops_own c (reached s.reached) now new t s.listed
 pub others_stay : OthersStay
 others_stay c r k e = (sound c (reached r) k).beside e
 
-not-about : (c : Conn) (d : Decoded) (j : ℕ) → (entry c.slots j).listed ≡ false → IsAboutDecoded d c j → ⊥
-not-about c found.Size j l a = a
-not-about c (found.Version n) j l a = a
-not-about c (found.Type n) j l a = a
-not-about c (found.Header h) j l a =
+not-about : (c : Conn) (d : Result Header HeaderDecodeError) (j : ℕ) → (entry c.slots j).listed ≡ false → IsAboutDecoded d c j → ⊥
+not-about c (Err found.Size) j l a = a
+not-about c (Err (found.Version n)) j l a = a
+not-about c (Err (found.Type n)) j l a = a
+not-about c (Ok h) j l a =
     let f = subst (Says (has_id h.stream_id) c.slots vacant) a (first_says (has_id h.stream_id) c.slots vacant) in
     true-not-false (is_listed h.stream_id (entry c.slots j) f.1) l
 

@@ -1,25 +1,18 @@
 -- Every call keeps the invariant, and a new connection has it. Assumes nothing.
-use mathlib.Core.Path.{◌≡◌, refl, sym, ap, subst}
-use mathlib.Core.Bool.{true, false}
-use mathlib.Core.List.{List, [], ◌∷◌}
-use Prim.Native.Nat.{ℕ, ◌≤◌}
-use native.Mathlib.Omega.{arith}
-use lib.ListN.{length, replicate, length-replicate}
-use lib.Dec.{ltb, leb}
-use borrow.Author.Tests.{leb-true}
+use Rattle.std.proofs.Common.{Ok, Result, Err, ◌≡◌, refl, sym, ap, subst, true, false, List, [], ◌∷◌, ℕ, ◌≤◌, arith, length, replicate, ltb, leb, leb-true}
+use lib.ListN.{length-replicate}
 use Rattle.frame.specs.Wire.{decoded}
-use Rattle.frame.specs.declared.header.Decoded.{Decoded}
-use Rattle.frame.specs.declared.header.Decoded.TheVariants as found
+use Rattle.frame.specs.declared.header.HeaderDecodeError.{HeaderDecodeError}
+use Rattle.frame.specs.declared.header.HeaderDecodeError.TheVariants as found
 use Rattle.rules.specs.declared.Settings.{Settings}
 use Rattle.rules.specs.declared.Config.{Config}
 use Rattle.rules.specs.declared.Mode.{Mode}
 use Rattle.rules.specs.declared.Mode.TheVariants.{Client, Server}
 use Rattle.rules.specs.declared.Setting.TheVariants as setting
-use Rattle.rules.specs.declared.Checked.TheVariants.{Fine}
 use Rattle.rules.specs.declared.Reply.TheVariants as reply
 use Rattle.rules.specs.Settings.{within, last_time, permitted, checked}
 use Rattle.rules.specs.State.{Entry, Conn, vacant, entry, one, initial, first_own}
-use Rattle.rules.specs.Ending.{Result, refuse}
+use Rattle.rules.specs.Ending.{Effect, refuse}
 use Rattle.rules.specs.Calls.{growth_of}
 use Rattle.rules.specs.Step.{on_decoded, step}
 use Rattle.rules.specs.Step as rules
@@ -34,6 +27,7 @@ use Rattle.demands.proofs.Sound.{Sound, left, same_put, bytes_of, refused, ends}
 use Rattle.demands.proofs.Frames.{headers}
 use Rattle.demands.proofs.Calls.{reads, writes, closes}
 use Rattle.demands.proofs.Handles.{opens-stream, drops, ticks}
+use Rattle.frame.specs.declared.header.Header.{Header}
 
 -- ---- a call
 
@@ -43,25 +37,25 @@ module _ (c : Conn) (v : Inv c) where
   Still e = (j : ℕ) → bytes_of c.slots j ≡ left e (bytes_of c.slots) j
 
   -- a time, an ended connection and a handle that is not held are refused; else the rules decide
-  timed-ok : (here : ℕ → Type 0) (e : Result → Event) (now : ℕ) (next : Result) → Still (e (refuse c reply.Time)) → Sound c here (e next) next → Sound c here (e (rules.timed c now next)) (rules.timed c now next)
+  timed-ok : (here : ℕ → Type 0) (e : Effect → Event) (now : ℕ) (next : Effect) → Still (e (refuse c reply.Time)) → Sound c here (e next) next → Sound c here (e (rules.timed c now next)) (rules.timed c now next)
   timed-ok here e now next n s = split (λ r. Sound c here (e r) r) (ltb last_time now) (λ t. refused c here _ v reply.Time n) (λ t. s)
 
-  live-ok : (here : ℕ → Type 0) (e : Result → Event) (next : Result) → Still (e (refuse c reply.Closed)) → (c.ended ≡ false → Sound c here (e next) next) → Sound c here (e (rules.live c next)) (rules.live c next)
+  live-ok : (here : ℕ → Type 0) (e : Effect → Event) (next : Effect) → Still (e (refuse c reply.Closed)) → (c.ended ≡ false → Sound c here (e next) next) → Sound c here (e (rules.live c next)) (rules.live c next)
   live-ok here e next n s = split (λ r. Sound c here (e r) r) c.ended (λ t. refused c here _ v reply.Closed n) s
 
-  holding-ok : (here : ℕ → Type 0) (e : Result → Event) (i : ℕ) (next : Result) → Still (e (refuse c reply.NotHeld)) → ((entry c.slots i).held ≡ true → Sound c here (e next) next) →
+  holding-ok : (here : ℕ → Type 0) (e : Effect → Event) (i : ℕ) (next : Effect) → Still (e (refuse c reply.NotHeld)) → ((entry c.slots i).held ≡ true → Sound c here (e next) next) →
       Sound c here (e (rules.holding c i next)) (rules.holding c i next)
   holding-ok here e i next n s = split (λ r. Sound c here (e r) r) (entry c.slots i).held s (λ h. refused c here _ v reply.NotHeld n)
 
-  decodes : (d : Decoded) (body : List ℕ) (now : ℕ) → Sound c (IsAboutDecoded d c) (by_frame d c body (on_decoded d c body now).outcome) (on_decoded d c body now)
+  decodes : (d : Result Header HeaderDecodeError) (body : List ℕ) (now : ℕ) → Sound c (IsAboutDecoded d c) (by_frame d c body (on_decoded d c body now).outcome) (on_decoded d c body now)
   unfolding on_decoded
-  decodes found.Size body now = refused c _ _ v reply.Size (λ j. refl)
-  decodes (found.Version n) body now =
+  decodes (Err found.Size) body now = refused c _ _ v reply.Size (λ j. refl)
+  decodes (Err (found.Version n)) body now =
       timed-ok _ (λ r. nothing) now _ (λ j. refl) (live-ok _ (λ r. nothing) _ (λ j. refl) (λ l. ends c v l _ _ reply.Version refl refl))
-  decodes (found.Type n) body now =
+  decodes (Err (found.Type n)) body now =
       timed-ok _ (λ r. nothing) now _ (λ j. refl) (live-ok _ (λ r. nothing) _ (λ j. refl) (λ l. ends c v l _ _ reply.Type refl refl))
-  decodes (found.Header h) body now =
-      let e : Result → Event = λ r. by_frame (found.Header h) c body r.outcome in
+  decodes (Ok h) body now =
+      let e : Effect → Event = λ r. by_frame (Ok h) c body r.outcome in
       timed-ok _ e now _ (λ j. refl) (live-ok _ e _ (λ j. refl) (λ l. headers c v l h body now))
 
   pub sound : (k : rules.Call) → Sound c (IsAbout c k) (event c k (step c k).outcome) (step c k)
@@ -69,23 +63,23 @@ module _ (c : Conn) (v : Inv c) where
   sound (rules.tick now) = timed-ok _ (λ r. nothing) now _ (λ j. refl) (live-ok _ (λ r. nothing) _ (λ j. refl) (λ l. ticks c v now))
   sound (rules.frame now head body) = decodes (decoded head) body now
   sound (rules.open_stream now) =
-      let e : Result → Event = λ r. event c (rules.open_stream now) r.outcome in
+      let e : Effect → Event = λ r. event c (rules.open_stream now) r.outcome in
       timed-ok _ e now _ (λ j. refl) (live-ok _ e _ (λ j. refl) (λ l. opens-stream c v l now))
   sound (rules.read now i asked) =
-      let e : Result → Event = λ r. event c (rules.read now i asked) r.outcome in
+      let e : Effect → Event = λ r. event c (rules.read now i asked) r.outcome in
       let s : Still (gave_out i []) = λ j. sym (same_put (bytes_of c.slots) i j) in
       timed-ok _ e now _ s (holding-ok _ e i _ s (λ h. reads c v i h asked now))
   sound (rules.write now i given) = timed-ok _ (λ r. nothing) now _ (λ j. refl) (holding-ok _ (λ r. nothing) i _ (λ j. refl) (λ h. writes c v i h given))
   sound (rules.close now i) = timed-ok _ (λ r. nothing) now _ (λ j. refl) (holding-ok _ (λ r. nothing) i _ (λ j. refl) (λ h. closes c v i h))
   sound (rules.drop now i) =
-      let e : Result → Event = λ r. event c (rules.drop now i) r.outcome in
+      let e : Effect → Event = λ r. event c (rules.drop now i) r.outcome in
       timed-ok _ e now _ (λ j. refl) (holding-ok _ e i _ (λ j. refl) (λ h. drops c v i h))
   sound (rules.gone now) = timed-ok _ (λ r. nothing) now _ (λ j. refl) (live-ok _ (λ r. nothing) _ (λ j. refl) (λ l. ends c v l _ _ reply.Closed refl refl))
 
 -- ---- a new connection
 
 -- settings that are accepted are allowed, and the connection has them as they are
-accepted_settings : (s : Settings) (c : Config) → checked s ≡ Fine c → Allowed c
+accepted_settings : (s : Settings) (c : Config) → checked s ≡ Ok c → Allowed c
 accepted_settings s c e =
     let ok = all_hold permitted s c e in
     let part = both (leb 1 s.split) (leb s.split 4294967295) (ok.0 setting.Split) in
@@ -133,7 +127,7 @@ starts c a =
       quiet = λ t. none;
     }
 
-pub started : (s : Settings) (c : Config) → checked s ≡ Fine c → Inv (initial c)
+pub started : (s : Settings) (c : Config) → checked s ≡ Ok c → Inv (initial c)
 started s c e = starts c (accepted_settings s c e)
 
 pub reached : {c : Conn} → Reach c → Inv c

@@ -1,21 +1,13 @@
 -- The demands, proved. The statements are those of `specs/Theorems.antt`. Assumes nothing.
-use mathlib.Core.Path.{◌≡◌, refl, ap, ◌∙◌}
-use mathlib.Core.Logic.{◌≢◌, ◌⊎◌, inl, inr}
-use mathlib.Core.Bool.{Bool, true, false, cond}
-use mathlib.Core.List.{List}
-use Prim.Native.Nat.{ℕ, ◌+◌, ◌-◌, ◌*◌, ◌%◌, ◌≤◌, min}
-use native.Mathlib.Omega.{arith}
-use lib.ListN.{length, take}
-use lib.Dec.{eqb}
-use borrow.Author.Tests.{eqb-true, le-ltb}
+use Rattle.std.proofs.Common.{Result, Ok, Err, ◌≡◌, refl, ap, ◌∙◌, ◌≢◌, ◌⊎◌, inl, inr, Bool, true, false, cond, List, ℕ, ◌+◌, ◌-◌, ◌*◌, ◌%◌, ◌≤◌, min, arith, length, take, eqb, eqb-true, le-ltb}
 use Rattle.frame.specs.Header.{initial_window}
 use Rattle.frame.specs.Wire.{decoded}
 use Rattle.frame.specs.declared.header.Header.{Header}
-use Rattle.frame.specs.declared.header.Decoded.{Decoded}
-use Rattle.frame.specs.declared.header.Decoded.TheVariants as found
+use Rattle.frame.specs.declared.header.HeaderDecodeError.{HeaderDecodeError}
+use Rattle.frame.specs.declared.header.HeaderDecodeError.TheVariants as found
 use Rattle.stream.specs.States.{can_read}
 use Rattle.rules.specs.State.{Entry, Conn, initial, vacant, entry, one, first_own, room}
-use Rattle.rules.specs.Ending.{Result}
+use Rattle.rules.specs.Ending.{Effect}
 use Rattle.rules.specs.Calls.{growth_of, read_rules, read_with, window_step}
 use Rattle.rules.specs.Step.{step, run}
 use Rattle.rules.specs.Step as rules
@@ -85,7 +77,7 @@ reads_give_all c now i asked t l h =
     let n = min asked (length e.bytes) in
     let u = window_step c e now in
     rw (timely c now _ t, holds c i _ h)
-    (split (λ (r : Result). r.outcome.bytes ≡ take n e.bytes) (ended_for_reads c)
+    (split (λ (r : Effect). r.outcome.bytes ≡ take n e.bytes) (ended_for_reads c)
     (λ d. true-not-false d l)
     (λ d. gives_all c i e u n (eqb n 0) (can_read u.stream.state) (eqb-true n 0)))
 
@@ -105,11 +97,11 @@ pub eight_exactly : EightExactly
 eight_exactly c r k = (limits c (reached r) k).eight
 
 -- a frame that makes a stream has a header
-opened_as : (c : Conn) (now : ℕ) (body : List ℕ) (test : Header → Bool) (r : Result) (d : Decoded) → ruled d c now body test ≡ true → Opened c (named d) r → (h : Header) × (d ≡ found.Header h) × Opened c h.stream_id r
-opened_as c now body test r found.Size e o = true-not-false e refl
-opened_as c now body test r (found.Version n) e o = true-not-false e refl
-opened_as c now body test r (found.Type n) e o = true-not-false e refl
-opened_as c now body test r (found.Header h) e o = (h, refl, o)
+opened_as : (c : Conn) (now : ℕ) (body : List ℕ) (test : Header → Bool) (r : Effect) (d : Result Header HeaderDecodeError) → ruled d c now body test ≡ true → Opened c (named d) r → (h : Header) × (d ≡ Ok h) × Opened c h.stream_id r
+opened_as c now body test r (Err found.Size) e o = true-not-false e refl
+opened_as c now body test r (Err (found.Version n)) e o = true-not-false e refl
+opened_as c now body test r (Err (found.Type n)) e o = true-not-false e refl
+opened_as c now body test r (Ok h) e o = (h, refl, o)
 
 pub would_open_is_exact : WouldOpenIsExact
 unfolding step

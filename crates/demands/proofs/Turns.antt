@@ -1,22 +1,11 @@
 -- A call that waits leaves its mark and gives no value, no other sets one, a frame wakes whom it should, and the next id goes by 2
 -- where an open gives one. Assumes nothing.
-use mathlib.Core.Path.{◌≡◌, refl, sym, ap, ◌∙◌, subst}
-use mathlib.Core.Logic.{◌⊎◌, inl, inr, ◌≢◌}
-use mathlib.Core.Bool.{Bool, true, false, cond}
-use mathlib.Core.List.{List, [], ◌∷◌, ◌++◌}
-use Prim.Native.Nat.{ℕ, ◌+◌, ◌-◌, ◌≤◌, min}
-use native.Mathlib.Nat.{suc-ne-zero}
-use lib.ListN.{length, set, length-set}
-use lib.Seq.{get_or-set_same}
-use lib.Dec.{eqb, ltb, leb}
-use borrow.Author.Tests.{ltb-false}
+use Rattle.std.proofs.Common.{Option, Some, None, Result, Ok, Err, ◌≡◌, refl, sym, ap, ◌∙◌, subst, ◌⊎◌, inl, inr, ◌≢◌, Bool, true, false, cond, List, [], ◌∷◌, ◌++◌, ℕ, ◌+◌, ◌-◌, ◌≤◌, min, suc-ne-zero, length, set, length-set, get_or-set_same, eqb, ltb, leb, ltb-false}
 use Rattle.frame.specs.Wire.{decoded}
 use Rattle.frame.specs.declared.header.Header.{Header}
-use Rattle.frame.specs.declared.header.Decoded.{Decoded}
-use Rattle.frame.specs.declared.header.Decoded.TheVariants as found
+use Rattle.frame.specs.declared.header.HeaderDecodeError.{HeaderDecodeError}
+use Rattle.frame.specs.declared.header.HeaderDecodeError.TheVariants as found
 use Rattle.rtt.specs.Pings.{next_ping}
-use Rattle.rtt.specs.declared.NextPing.{NextPing}
-use Rattle.rtt.specs.declared.NextPing.TheVariants as ask
 use Rattle.flow_control.specs.Windows.{top}
 use Rattle.stream.specs.States.{can_read, can_write}
 use Rattle.stream.specs.Streams as stream
@@ -26,12 +15,11 @@ use Rattle.stream.specs.declared.ReadEnd.TheVariants as reading
 use Rattle.stream.specs.declared.Written.TheVariants as written
 use Rattle.rules.specs.declared.Reply.{Reply}
 use Rattle.rules.specs.declared.Reply.TheVariants as reply
-use Rattle.rules.specs.declared.Value.TheVariants as value
 use Rattle.rules.specs.Replies.{bare, leaves_all}
 use Rattle.rules.specs.Settings.{last_time}
 use Rattle.rules.specs.Lists.{Place, at, nowhere}
 use Rattle.rules.specs.State.{Entry, Conn, vacant, entry, is_free, has_id, find, lowest_free, listed_count, unacknowledged, with_stream, with_slot, with_open_wait, with_growth, with_pings}
-use Rattle.rules.specs.Ending.{Result, gives, refuse, ended}
+use Rattle.rules.specs.Ending.{Effect, gives, refuse, ended}
 use Rattle.rules.specs.Frames.{new_entry, on_header}
 use Rattle.rules.specs.Calls.{growth_of, open_at, open_rules, read_entry, read_rest, read_with, window_step, read_rules, write_with, write_rules, close_rules, removed_entry, drop_at, drop_rules, ping_out, tick_rules}
 use Rattle.rules.specs.Step.{on_decoded, step}
@@ -60,7 +48,7 @@ Next c given d = ((given ≡ []) × (d.next_id ≡ c.next_id)) ⊎ ((given ≡ c
 abbrev By : Type 0 → Bool → Bool → Reply → Type 0
 By who before after q = Sets before after → who × (q ≡ reply.Wait)
 
-abbrev SetBy : Conn → rules.Call → Result → Type 0
+abbrev SetBy : Conn → rules.Call → Effect → Type 0
 SetBy c k r =
     By (Opens k) c.open_wait r.after.open_wait r.outcome.reply
     × ((j : ℕ) → By (Reads k j) (entry c.slots j).stream.reader (entry r.after.slots j).stream.reader r.outcome.reply)
@@ -79,14 +67,14 @@ all_unset c = ((λ e. e), none-set c.slots)
 end_unset : (c : Conn) → Unset c (ended c)
 end_unset c = ((λ e. true-not-false e refl), end-set c)
 
-pub record Turn (c : Conn) (k : rules.Call) (r : Result) : Type 0 where
-  pub waits : r.outcome.reply ≡ reply.Wait → Waiting k r.after × (r.outcome.value ≡ value.None)
+pub record Turn (c : Conn) (k : rules.Call) (r : Effect) : Type 0 where
+  pub waits : r.outcome.reply ≡ reply.Wait → Waiting k r.after × (r.outcome.value ≡ None)
   pub sets : SetBy c k r
   pub next : Next c (id_of k r.outcome) r.after
 
 module _ (c : Conn) (k : rules.Call) where
   -- a call that does not wait and gives no id
-  prompt : (r : Result) → is_wait r.outcome.reply ≡ false → id_of k r.outcome ≡ [] → r.after.next_id ≡ c.next_id → Unset c r.after → Turn c k r
+  prompt : (r : Effect) → is_wait r.outcome.reply ≡ false → id_of k r.outcome ≡ [] → r.after.next_id ≡ c.next_id → Unset c r.after → Turn c k r
   prompt r w e n u = record {
     waits = λ q. true-not-false (ap is_wait q) w;
     sets = ((λ s. not_set u.0 s), (λ j s. not_set (u.1 j).0 s), (λ j s. not_set (u.1 j).1 s));
@@ -96,13 +84,13 @@ module _ (c : Conn) (k : rules.Call) where
   refused : (q : Reply) → is_wait q ≡ false → Turn c k (refuse c q)
   refused q w = prompt _ w (split (λ (l : List ℕ). l ≡ []) (and (is_open k) (is_done q)) (λ t. refl) (λ t. refl)) refl (all_unset c)
 
-  timed-ok : (now : ℕ) (next : Result) → Turn c k next → Turn c k (rules.timed c now next)
+  timed-ok : (now : ℕ) (next : Effect) → Turn c k next → Turn c k (rules.timed c now next)
   timed-ok now next s = split (Turn c k) (ltb last_time now) (λ t. refused reply.Time refl) (λ t. s)
 
-  live-ok : (next : Result) → (c.ended ≡ false → Turn c k next) → Turn c k (rules.live c next)
+  live-ok : (next : Effect) → (c.ended ≡ false → Turn c k next) → Turn c k (rules.live c next)
   live-ok next s = split (Turn c k) c.ended (λ t. refused reply.Closed refl) s
 
-  holding-ok : (i : ℕ) (next : Result) → ((entry c.slots i).held ≡ true → Turn c k next) → Turn c k (rules.holding c i next)
+  holding-ok : (i : ℕ) (next : Effect) → ((entry c.slots i).held ≡ true → Turn c k next) → Turn c k (rules.holding c i next)
   holding-ok i next s = split (Turn c k) (entry c.slots i).held s (λ t. refused reply.NotHeld refl)
 
 -- ---- calls on a handle
@@ -126,7 +114,7 @@ module _ (c : Conn) (now i : ℕ) (held : (entry c.slots i).held ≡ true) where
       (λ j m s. not_set (λ e. e) s)
 
   module _ (asked : ℕ) where
-    abbrev ReadOk : Result → Type 0
+    abbrev ReadOk : Effect → Type 0
     ReadOk r = Turn c (rules.read now i asked) r
 
     read_done : (u : Updated) → SameWaits u.stream old.stream → (n : ℕ) → ReadOk (read_rest c i old u n (reading.Done u.stream))
@@ -158,7 +146,7 @@ module _ (c : Conn) (now i : ℕ) (held : (entry c.slots i).held ≡ true) where
         split ReadOk (ended_for_reads c) (λ e. prompt c _ _ refl refl refl (all_unset c)) (λ e. read-ends u (steps c i held now) n (eqb n 0) (can_read u.stream.state))
 
   module _ (given : List ℕ) where
-    abbrev WriteOk : Result → Type 0
+    abbrev WriteOk : Effect → Type 0
     WriteOk r = Turn c (rules.write now i given) r
 
     write-waits : WriteOk (write_with c i old given (written.Wait (stream.with_waits old.stream old.stream.reader true)))
@@ -212,7 +200,7 @@ module _ (c : Conn) (now i : ℕ) (held : (entry c.slots i).held ≡ true) where
 -- ---- open and tick
 
 module _ (c : Conn) (now : ℕ) where
-  abbrev OpenOk : Result → Type 0
+  abbrev OpenOk : Effect → Type 0
   OpenOk r = Turn c (rules.open_stream now) r
 
   opens_at : c.next_id + 2 ≤ top → (p : Place) → Says is_free c.slots vacant p → OpenOk (open_at p c now)
@@ -242,10 +230,10 @@ module _ (c : Conn) (now : ℕ) where
       split OpenOk (ltb top (c.next_id + 2)) (λ n. prompt c _ _ refl refl refl (end_unset c)) (λ n.
       opens_at (ltb-false top (c.next_id + 2) n) (lowest_free c.slots) (first_says is_free c.slots vacant))))
 
-  ticks-out : (p : NextPing) (d : Conn) → d.next_id ≡ c.next_id → Unset c d → Turn c (rules.tick now) (ping_out p d)
+  ticks-out : (p : Option Header) (d : Conn) → d.next_id ≡ c.next_id → Unset c d → Turn c (rules.tick now) (ping_out p d)
   unfolding ping_out
-  ticks-out ask.None d n u = prompt c _ _ refl refl n u
-  ticks-out (ask.Ping h) d n u = prompt c _ _ refl refl n u
+  ticks-out None d n u = prompt c _ _ refl refl n u
+  ticks-out (Some h) d n u = prompt c _ _ refl refl n u
 
   ticks : Turn c (rules.tick now) (tick_rules c now)
   unfolding tick_rules
@@ -262,12 +250,12 @@ module _ (c : Conn) (v : Inv c) where
   header-turns : c.ended ≡ false → (h : Header) (head body : List ℕ) (now : ℕ) → Turn c (rules.frame now head body) (on_header c h body now)
   header-turns l h head body now = let p = headers c v l h body now in prompt c _ _ p.prompt refl p.next (open_kept h _ p.mark, p.unset)
 
-  decodes : (d : Decoded) (head body : List ℕ) (now : ℕ) → Turn c (rules.frame now head body) (on_decoded d c body now)
+  decodes : (d : Result Header HeaderDecodeError) (head body : List ℕ) (now : ℕ) → Turn c (rules.frame now head body) (on_decoded d c body now)
   unfolding on_decoded
-  decodes found.Size head body now = prompt c _ _ refl refl refl (all_unset c)
-  decodes (found.Version n) head body now = timed-ok c _ now _ (live-ok c _ _ (λ l. prompt c _ _ refl refl refl (end_unset c)))
-  decodes (found.Type n) head body now = timed-ok c _ now _ (live-ok c _ _ (λ l. prompt c _ _ refl refl refl (end_unset c)))
-  decodes (found.Header h) head body now = timed-ok c _ now _ (live-ok c _ _ (λ l. header-turns l h head body now))
+  decodes (Err found.Size) head body now = prompt c _ _ refl refl refl (all_unset c)
+  decodes (Err (found.Version n)) head body now = timed-ok c _ now _ (live-ok c _ _ (λ l. prompt c _ _ refl refl refl (end_unset c)))
+  decodes (Err (found.Type n)) head body now = timed-ok c _ now _ (live-ok c _ _ (λ l. prompt c _ _ refl refl refl (end_unset c)))
+  decodes (Ok h) head body now = timed-ok c _ now _ (live-ok c _ _ (λ l. header-turns l h head body now))
 
   pub turns : (k : rules.Call) → Turn c k (step c k)
   unfolding step
@@ -288,7 +276,7 @@ waits_are_set c m k = (turns c (reached m) k).waits
 pub only_waits_set : OnlyWaitsSet
 only_waits_set c m k = (turns c (reached m) k).sets
 
-abbrev OpenWoken : Conn → Result → Type 0
+abbrev OpenWoken : Conn → Effect → Type 0
 OpenWoken c r = leaves_all r.outcome.reply ≡ false → IsWoken c.open_wait r.after.open_wait r.outcome.wakes.opener
 
 pub acks_wake_the_open : AcksWakeTheOpen
@@ -303,11 +291,11 @@ acks_wake_the_open c m now head body h d s e live =
     (o.0 ∙ w.0, o.1 ∙ w.1))))
 
 -- what is so of every refusal, and of what comes behind the tests of time and ending
-tested : (P : Result → Type 0) (c : Conn) (now : ℕ) (r : Result) → ((q : Reply) → is_done q ≡ false → P (refuse c q)) → (c.ended ≡ false → P r)
+tested : (P : Effect → Type 0) (c : Conn) (now : ℕ) (r : Effect) → ((q : Reply) → is_done q ≡ false → P (refuse c q)) → (c.ended ≡ false → P r)
     → P (rules.timed c now (rules.live c r))
 tested P c now r f g = split P (ltb last_time now) (λ t. f reply.Time refl) (λ t. split P c.ended (λ e. f reply.Closed refl) g)
 
-abbrev StreamWoken : Conn → Header → ℕ → Result → Type 0
+abbrev StreamWoken : Conn → Header → ℕ → Effect → Type 0
 StreamWoken c h i r =
     r.outcome.reply ≡ reply.Done →
     Woken (wakes_reader h.tag h) (wakes_writer h.tag h) (entry c.slots i).stream (entry r.after.slots i).stream r.outcome.wakes.reader r.outcome.wakes.writer
@@ -318,18 +306,18 @@ taken_wakes c m now i head body h d f =
     subst (λ q. StreamWoken c h i (on_decoded q c body now)) (sym d)
     (tested (StreamWoken c h i) c now _ (λ q e n. not_done q e n) (λ live. (headers c (reached m) live h body now).woken i f))
 
-abbrev Unwoken : Result → Type 0
+abbrev Unwoken : Effect → Type 0
 Unwoken r = r.outcome.reply ≢ reply.Done → Unreported r.outcome.wakes
 
 pub only_taken_wakes : OnlyTakenWakes
 unfolding step on_decoded
 only_taken_wakes c m now head body = go (decoded head)
   where
-    go : (q : Decoded) → Unwoken (on_decoded q c body now)
-    go found.Size = λ n. (refl, refl)
-    go (found.Version v) = tested Unwoken c now _ (λ q e n. (refl, refl)) (λ l n. (refl, refl))
-    go (found.Type t) = tested Unwoken c now _ (λ q e n. (refl, refl)) (λ l n. (refl, refl))
-    go (found.Header h) = tested Unwoken c now _ (λ q e n. (refl, refl)) (λ l. (headers c (reached m) l h body now).unwoken)
+    go : (q : Result Header HeaderDecodeError) → Unwoken (on_decoded q c body now)
+    go (Err found.Size) = λ n. (refl, refl)
+    go (Err (found.Version v)) = tested Unwoken c now _ (λ q e n. (refl, refl)) (λ l n. (refl, refl))
+    go (Err (found.Type t)) = tested Unwoken c now _ (λ q e n. (refl, refl)) (λ l n. (refl, refl))
+    go (Ok h) = tested Unwoken c now _ (λ q e n. (refl, refl)) (λ l. (headers c (reached m) l h body now).unwoken)
 
 -- ---- ids
 

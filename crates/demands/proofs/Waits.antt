@@ -1,18 +1,14 @@
 -- Waits that are cleared are reported, and what is reported was waiting. Assumes nothing.
-use mathlib.Core.Path.{◌≡◌, refl, sym, ap, ◌∙◌, subst}
-use mathlib.Core.Logic.{◌⊎◌, inl, inr}
-use mathlib.Core.Bool.{Bool, true, false}
-use mathlib.Core.List.{List}
-use Prim.Native.Nat.{ℕ}
+use Rattle.std.proofs.Common.{Result, Ok, Err, ◌≡◌, refl, sym, ap, ◌∙◌, subst, ◌⊎◌, inl, inr, Bool, true, false, List, ℕ}
 use native.Mathlib.Decide.{ℕ_discrete}
 use Rattle.frame.specs.Wire.{decoded}
-use Rattle.frame.specs.declared.header.Decoded.{Decoded}
-use Rattle.frame.specs.declared.header.Decoded.TheVariants as found
+use Rattle.frame.specs.declared.header.HeaderDecodeError.{HeaderDecodeError}
+use Rattle.frame.specs.declared.header.HeaderDecodeError.TheVariants as found
 use Rattle.stream.specs.declared.Stream.{Stream}
 use Rattle.rules.specs.declared.Reply.TheVariants as reply
 use Rattle.rules.specs.Lists.{Place, at, nowhere}
 use Rattle.rules.specs.State.{Entry, Conn, vacant, entry, find}
-use Rattle.rules.specs.Ending.{Result}
+use Rattle.rules.specs.Ending.{Effect}
 use Rattle.rules.specs.Step.{on_decoded, step}
 use Rattle.rules.specs.Step as rules
 use Rattle.demands.specs.Handles.{IsAbout, IsAboutDecoded}
@@ -25,6 +21,7 @@ use Rattle.demands.proofs.Stale.{found_at}
 use Rattle.demands.proofs.Marks.{cleared, Reports, Goes, Ends, Waits, refused, timed-ok, live-ok, holding-ok, itself, none, headers}
 use Rattle.demands.proofs.OwnMarks.{reads, writes, closes, drops, opens, ticks}
 use Rattle.demands.proofs.Woken.{at_is, not_at, end_off}
+use Rattle.frame.specs.declared.header.Header.{Header}
 
 -- ---- every call
 
@@ -40,12 +37,12 @@ Mine (rules.drop now i) j = ⊥
 Mine (rules.gone now) j = ⊥
 
 module _ (c : Conn) (v : Inv c) where
-  decodes : (d : Decoded) (body : List ℕ) (now : ℕ) → Waits c (woken_decoded d c) itself none (on_decoded d c body now)
+  decodes : (d : Result Header HeaderDecodeError) (body : List ℕ) (now : ℕ) → Waits c (woken_decoded d c) itself none (on_decoded d c body now)
   unfolding on_decoded
-  decodes found.Size body now = inr (refused c itself none nowhere reply.Size)
-  decodes (found.Version n) body now = timed-ok c itself none nowhere now _ (live-ok c itself none nowhere _ (λ l. inl (l, (reply.Version, refl))))
-  decodes (found.Type n) body now = timed-ok c itself none nowhere now _ (live-ok c itself none nowhere _ (λ l. inl (l, (reply.Type, refl))))
-  decodes (found.Header h) body now = timed-ok c itself none _ now _ (live-ok c itself none _ _ (λ l. headers c v l h body now))
+  decodes (Err found.Size) body now = inr (refused c itself none nowhere reply.Size)
+  decodes (Err (found.Version n)) body now = timed-ok c itself none nowhere now _ (live-ok c itself none nowhere _ (λ l. inl (l, (reply.Version, refl))))
+  decodes (Err (found.Type n)) body now = timed-ok c itself none nowhere now _ (live-ok c itself none nowhere _ (λ l. inl (l, (reply.Type, refl))))
+  decodes (Ok h) body now = timed-ok c itself none _ now _ (live-ok c itself none _ _ (λ l. headers c v l h body now))
 
   waits : (k : rules.Call) → Waits c (woken c k) (told_for k) (Mine k) (step c k)
   unfolding step
@@ -78,11 +75,11 @@ is_at (at i) j = go (ℕ_discrete i j)
 
 -- ---- a slot whose stream is not woken
 
-about-woken : (d : Decoded) (c : Conn) (j : ℕ) → IsAboutDecoded d c j → woken_decoded d c ≡ at j
-about-woken found.Size c j a = absurd a
-about-woken (found.Version n) c j a = absurd a
-about-woken (found.Type n) c j a = absurd a
-about-woken (found.Header h) c j a = a
+about-woken : (d : Result Header HeaderDecodeError) (c : Conn) (j : ℕ) → IsAboutDecoded d c j → woken_decoded d c ≡ at j
+about-woken (Err found.Size) c j a = absurd a
+about-woken (Err (found.Version n)) c j a = absurd a
+about-woken (Err (found.Type n)) c j a = absurd a
+about-woken (Ok h) c j a = a
 
 either : {A B : Type 0} → (A → ⊥) → (B → ⊥) → A ⊎ B → ⊥
 either f g (inl a) = f a
@@ -121,7 +118,7 @@ module _ (c : Conn) (v : Inv c) (j : ℕ) where
 -- ---- the statements
 
 module _ (c : Conn) (v : Inv c) (k : rules.Call) where
-  abbrev r : Result
+  abbrev r : Effect
   r = step c k
 
   abbrev before : ℕ → Stream
@@ -157,21 +154,21 @@ module _ (c : Conn) (v : Inv c) (k : rules.Call) where
   Shown = Waits c (woken c k) (told_for k) (Mine k) r
 
   opener-told : Shown → Clears c.open_wait r.after.open_wait → (r.outcome.wakes.opener ≡ true) ⊎ (r.outcome.wakes.all ≡ true)
-  opener-told (inl e) m = inr (ap (λ (x : Result). x.outcome.wakes.all) e.1.1)
+  opener-told (inl e) m = inr (ap (λ (x : Effect). x.outcome.wakes.all) e.1.1)
   opener-told (inr g) m = inl (is_cleared _ _ _ g.opener m)
 
   reader-told : Shown → (j : ℕ) → Clears (before j).reader (later j).reader → Told c k r.outcome.wakes.reader j
-  reader-told (inl e) j m = inr (inl (ap (λ (x : Result). x.outcome.wakes.all) e.1.1))
+  reader-told (inl e) j m = inr (inl (ap (λ (x : Effect). x.outcome.wakes.all) e.1.1))
   reader-told (inr g) j m = told_at g (λ s. s.reader) r.outcome.wakes.reader refl (λ i e. (here g i e).0.0) (λ i o. (g.kept i o).0) j m (is_at (woken c k) j)
 
   writer-told : Shown → (j : ℕ) → Clears (before j).writer (later j).writer → Told c k r.outcome.wakes.writer j
-  writer-told (inl e) j m = inr (inl (ap (λ (x : Result). x.outcome.wakes.all) e.1.1))
+  writer-told (inl e) j m = inr (inl (ap (λ (x : Effect). x.outcome.wakes.all) e.1.1))
   writer-told (inr g) j m = told_at g (λ s. s.writer) r.outcome.wakes.writer refl (λ i e. (here g i e).0.1) (λ i o. (g.kept i o).1) j m (is_at (woken c k) j)
 
   -- ---- what is reported
 
   opener-waited : Shown → r.outcome.wakes.opener ≡ true → Clears c.open_wait r.after.open_wait
-  opener-waited (inl e) t = true-not-false t (ap (λ (x : Result). x.outcome.wakes.opener) e.1.1)
+  opener-waited (inl e) t = true-not-false t (ap (λ (x : Effect). x.outcome.wakes.opener) e.1.1)
   opener-waited (inr g) t = was_cleared _ _ _ g.opener t
 
   reader_at : (p : Place) → woken c k ≡ p → Reports p (told_for k) c.slots r → r.outcome.wakes.reader ≡ true → Waited c k (λ s. s.reader)
@@ -179,7 +176,7 @@ module _ (c : Conn) (v : Inv c) (k : rules.Call) where
   reader_at (at j) q h t = (j, q, h.1.0 t, was_cleared _ _ _ h.0.0 t)
 
   reader-waited : Shown → r.outcome.wakes.reader ≡ true → Waited c k (λ s. s.reader)
-  reader-waited (inl e) t = true-not-false t (ap (λ (x : Result). x.outcome.wakes.reader) e.1.1)
+  reader-waited (inl e) t = true-not-false t (ap (λ (x : Effect). x.outcome.wakes.reader) e.1.1)
   reader-waited (inr g) t = reader_at (woken c k) refl g.here t
 
   writer-at : (p : Place) → woken c k ≡ p → Reports p (told_for k) c.slots r → r.outcome.wakes.writer ≡ true → Waited c k (λ s. s.writer)
@@ -187,13 +184,13 @@ module _ (c : Conn) (v : Inv c) (k : rules.Call) where
   writer-at (at j) q h t = (j, q, h.1.1 t, was_cleared _ _ _ h.0.1 t)
 
   writer-waited : Shown → r.outcome.wakes.writer ≡ true → Waited c k (λ s. s.writer)
-  writer-waited (inl e) t = true-not-false t (ap (λ (x : Result). x.outcome.wakes.writer) e.1.1)
+  writer-waited (inl e) t = true-not-false t (ap (λ (x : Effect). x.outcome.wakes.writer) e.1.1)
   writer-waited (inr g) t = writer-at (woken c k) refl g.here t
 
   -- ---- ending
 
   ends-told : Shown → c.ended ≡ false → r.after.ended ≡ true → r.outcome.wakes.all ≡ true
-  ends-told (inl e) l t = ap (λ (x : Result). x.outcome.wakes.all) e.1.1
+  ends-told (inl e) l t = ap (λ (x : Effect). x.outcome.wakes.all) e.1.1
   ends-told (inr g) l t = true-not-false t (g.same ∙ l)
 
   -- what reports `all` ends the connection
@@ -203,7 +200,7 @@ module _ (c : Conn) (v : Inv c) (k : rules.Call) where
 
   ends-off : Ends c r → (j : ℕ) → ((later j).reader ≡ false) × ((later j).writer ≡ false)
   ends-off e j =
-      subst (λ (x : Result). ((entry x.after.slots j).stream.reader ≡ false) × ((entry x.after.slots j).stream.writer ≡ false)) (sym e.1.1)
+      subst (λ (x : Effect). ((entry x.after.slots j).stream.reader ≡ false) × ((entry x.after.slots j).stream.writer ≡ false)) (sym e.1.1)
       (at_end (λ i x. (x.stream.reader ≡ false) × (x.stream.writer ≡ false)) c.slots (λ i. end_off (entry c.slots i).listed (before i)) j)
 
 pub waits_are_reported : WaitsAreReported
@@ -227,11 +224,11 @@ ending_is_reported c m k =
       (λ t.
           let e = (is t).1.1 in (
             (is t).0,
-            ap (λ (x : Result). x.after.ended) e,
-            ap (λ (x : Result). x.outcome.wakes.reader) e,
-            ap (λ (x : Result). x.outcome.wakes.writer) e,
-            ap (λ (x : Result). x.outcome.wakes.opener) e,
+            ap (λ (x : Effect). x.after.ended) e,
+            ap (λ (x : Effect). x.outcome.wakes.reader) e,
+            ap (λ (x : Effect). x.outcome.wakes.writer) e,
+            ap (λ (x : Effect). x.outcome.wakes.opener) e,
           )),
-      (λ t. ap (λ (x : Result). x.after.open_wait) (is t).1.1),
+      (λ t. ap (λ (x : Effect). x.after.open_wait) (is t).1.1),
       (λ t. ends-off c v k (is t)),
     )

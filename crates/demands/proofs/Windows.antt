@@ -1,7 +1,5 @@
 -- The window step keeps each stream within its maximum and the growth figure within the limit. Assumes nothing.
-use mathlib.Core.Path.{◌≡◌}
-use Prim.Native.Nat.{ℕ, ◌+◌, ◌*◌, ◌≤◌}
-use native.Mathlib.Omega.{arith}
+use Rattle.std.proofs.Common.{◌≡◌, ℕ, ◌+◌, ◌*◌, ◌≤◌, arith}
 use Rattle.frame.specs.Header.{initial_window}
 use Rattle.flow_control.specs.Windows.{next_window_update}
 use Rattle.flow_control.specs.declared.Conditions.{Conditions}

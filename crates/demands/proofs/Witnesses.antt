@@ -1,5 +1,5 @@
 -- The runs of `specs/Witnesses.antt`, computed. Assumes nothing.
-use mathlib.Core.Path.{refl}
+use Rattle.std.proofs.Common.{refl}
 use Rattle.rules.specs.Frames.{ack_step, on_reset, make_at, make, syn_rules, syn_data, syn_update, take_at, known_data, known_update, data_rules, update_rules, pong_rules, ping_rules, frame_rules, on_header}
 use Rattle.rules.specs.Calls.{open_at, open_rules, read_rest, read_with, window_step, read_rules, write_with, write_rules, close_rules, drop_at, drop_rules, ping_out, tick_rules}
 use Rattle.rules.specs.Step.{on_decoded, step}

@@ -1,32 +1,20 @@
 -- Whom a frame wakes, that it makes nobody wait, and that it leaves the next id. Assumes nothing.
-use mathlib.Core.Path.{◌≡◌, refl, sym, ap, ◌∙◌, subst}
-use mathlib.Core.Logic.{◌⊎◌, inl, inr, ◌≢◌}
-use mathlib.Core.Bool.{Bool, true, false, cond}
-use mathlib.Core.List.{List, []}
-use Prim.Native.Nat.{ℕ, ◌+◌, ◌<◌}
-use lib.ListN.{length, set}
-use lib.Seq.{get_or-set_same}
-use lib.Dec.{eqb, ltb, leb}
+use Rattle.std.proofs.Common.{None, Result, Ok, Err, ◌≡◌, refl, sym, ap, ◌∙◌, subst, ◌⊎◌, inl, inr, ◌≢◌, Bool, true, false, cond, List, [], ℕ, ◌+◌, ◌<◌, length, set, get_or-set_same, eqb, ltb, leb}
 use Rattle.frame.specs.Header.{contains, syn, ack, fin, rst, initial_window, protocol_error, internal_error}
 use Rattle.frame.specs.declared.header.Header.{Header}
 use Rattle.frame.specs.declared.header.Tag.{Tag}
 use Rattle.frame.specs.declared.header.Tag.TheVariants as tag
 use Rattle.rtt.specs.Pings.{handle_pong}
-use Rattle.rtt.specs.declared.Pong.{Pong}
-use Rattle.rtt.specs.declared.Pong.TheVariants.{Accepted, Unexpected}
 use Rattle.flow_control.specs.Windows.{top}
 use Rattle.stream.specs.Streams as stream
 use Rattle.stream.specs.declared.Stream.{Stream}
 use Rattle.stream.specs.declared.StreamWakes.{StreamWakes}
-use Rattle.stream.specs.declared.Received.TheVariants.{Taken, ProtocolError}
-use Rattle.stream.specs.declared.Sent.TheVariants.{Nothing}
 use Rattle.rules.specs.declared.Reply.{Reply}
 use Rattle.rules.specs.declared.Reply.TheVariants as reply
-use Rattle.rules.specs.declared.Value.TheVariants as value
 use Rattle.rules.specs.Replies.{Outcome, number, leaves_all}
 use Rattle.rules.specs.Lists.{Place, at, nowhere}
 use Rattle.rules.specs.State.{Entry, Conn, vacant, entry, is_free, has_id, find, lowest_free, is_remote, listed_count, room, with_slot, with_open_wait}
-use Rattle.rules.specs.Ending.{Result, gives, refuse, end_entry, ended}
+use Rattle.rules.specs.Ending.{Effect, gives, refuse, end_entry, ended}
 use Rattle.rules.specs.Frames.{Acked, ack_step, answer, whose, frame_wakes, quiet, go_away, on_reset, reset_entry, new_entry, make_at, make, is_known, syn_rules, syn_data, opened_by, syn_update, taken_entry, take_at, known_data, known_update, data_rules, update_rules, unacked, pong_rules, ping_rules, answers_ping, frame_rules, body_length, on_header}
 use Rattle.rules.proofs.Lists.{Says, first_says}
 use Rattle.demands.specs.History.{is_done}
@@ -36,6 +24,9 @@ use Rattle.demands.proofs.Lists.{true-not-false, at_set}
 use Rattle.demands.proofs.Invariant.{Inv}
 use Rattle.demands.proofs.Sound.{at_end}
 use Rattle.demands.proofs.Acks.{Acks, SameWaits, after-ack, unmoved, acknowledges}
+use Rattle.rtt.specs.declared.UnexpectedPong.{UnexpectedPong}
+use Rattle.rtt.specs.declared.Rtt.{Rtt}
+use Rattle.stream.specs.Streams.{received, invalid}
 
 -- ---- replies and places
 
@@ -100,7 +91,7 @@ fares_left : (b mark : Bool) → b ≡ false → Fares b mark mark false
 fares_left b mark e = ((λ t. true-not-false t e), (λ f. (refl, refl)))
 
 -- of a frame on c for the stream at a place, whose ACK step is a: only replies that change nothing undo that step
-pub record Passes (c : Conn) (a : Acked) (place : Place) (reader writer : Bool) (r : Result) : Type 0 where
+pub record Passes (c : Conn) (a : Acked) (place : Place) (reader writer : Bool) (r : Effect) : Type 0 where
   pub prompt : is_wait r.outcome.reply ≡ false
   pub next : r.after.next_id ≡ c.next_id
   pub unset : NoneSet c.slots r.after.slots
@@ -137,18 +128,18 @@ module _ (h : Header) (a : Acked) where
   same k = (k.next, (λ j. same_fewer (entry a.before.slots j).stream (entry a.conn.slots j).stream (k.waits j)))
 
 module _ (h : Header) (a : Acked) (reader writer : Bool) where
-  abbrev Ok : Place → Result → Type 0
-  Ok place r = Passes a.before a place reader writer r
+  abbrev Good : Place → Effect → Type 0
+  Good place r = Passes a.before a place reader writer r
 
-  away : (place : Place) → Same h a → (code : ℕ) → Ok place (go_away a code)
+  away : (place : Place) → Same h a → (code : ℕ) → Good place (go_away a code)
   away place n code = record { prompt = refl; next = n.0; unset = n.1; mark = inr refl; opener = λ l. (refl, refl); woken = λ i e d. not_done _ refl d; unwoken = λ n. (refl, refl) }
 
-  unknown : (o : Outcome) (d : Conn) → o.reply ≡ reply.Done → d.next_id ≡ a.before.next_id → NoneSet a.before.slots d.slots → d.open_wait ≡ a.conn.open_wait → o.wakes.opener ≡ a.woke → Ok nowhere (gives o d)
+  unknown : (o : Outcome) (d : Conn) → o.reply ≡ reply.Done → d.next_id ≡ a.before.next_id → NoneSet a.before.slots d.slots → d.open_wait ≡ a.conn.open_wait → o.wakes.opener ≡ a.woke → Good nowhere (gives o d)
   unknown o d p n u e w = record { prompt = rw p; next = n; unset = u; mark = inr e; opener = λ l. (e, w); woken = λ i q r. not_at i q; unwoken = λ f. absurd (f p) }
 
   -- a stream in the table that changes
   changes : (i : ℕ) → Acks a h.stream_id (at i) → (w : StreamWakes) (x : Entry) → Woken reader writer (entry a.conn.slots i).stream x.stream w.reader w.writer →
-      Fewer (entry a.conn.slots i).stream x.stream → Ok (at i) (gives (answer a (whose w i) value.None Nothing w) (with_slot a.conn i x))
+      Fewer (entry a.conn.slots i).stream x.stream → Good (at i) (gives (answer a (whose w i) None None w) (with_slot a.conn i x))
   changes i k w x m f = record {
     prompt = refl;
     next = k.next;
@@ -164,7 +155,7 @@ module _ (h : Header) (a : Acked) (reader writer : Bool) where
   }
 
   -- a reset wakes both
-  resets : reader ≡ true → writer ≡ true → (place : Place) → Acks a h.stream_id place → Ok place (on_reset a place)
+  resets : reader ≡ true → writer ≡ true → (place : Place) → Acks a h.stream_id place → Good place (on_reset a place)
   unfolding on_reset
   resets r w nowhere k = unknown _ _ refl k.next (same h a k).1 refl refl
   resets r w (at i) k =
@@ -172,34 +163,34 @@ module _ (h : Header) (a : Acked) (reader writer : Bool) where
       let s = e.stream in
       changes i k _ (reset_entry e) (fares_woken reader s.reader r, fares_woken writer s.writer w) (off_fewer s (reset_entry e).stream (refl, refl))
 
-  makes-at : Same h a → (p : Place) → Says is_free a.conn.slots vacant p → (s : Stream) → Off s → (body : List ℕ) → Ok nowhere (make_at p a s body)
+  makes-at : Same h a → (p : Place) → Says is_free a.conn.slots vacant p → (s : Stream) → Off s → (body : List ℕ) → Good nowhere (make_at p a s body)
   unfolding make_at
   makes-at n nowhere l s q body = undone a.before a nowhere reader writer reply.NoSlot refl refl refl
   makes-at n (at i) l s q body =
-      split (Ok nowhere) (ltb (room a.conn) (length body)) (λ r. undone a.before a nowhere reader writer reply.NoRoom refl refl refl) (λ r. unknown _ _ refl n.0 (slot_set a.before.slots a.conn.slots i (new_entry s body) l.0 n.1 (off_fewer (entry a.before.slots i).stream s q)) refl refl)
+      split (Good nowhere) (ltb (room a.conn) (length body)) (λ r. undone a.before a nowhere reader writer reply.NoRoom refl refl refl) (λ r. unknown _ _ refl n.0 (slot_set a.before.slots a.conn.slots i (new_entry s body) l.0 n.1 (off_fewer (entry a.before.slots i).stream s q)) refl refl)
 
-  makes : Same h a → (s : Stream) → Off s → (body : List ℕ) → Ok nowhere (make a s body)
+  makes : Same h a → (s : Stream) → Off s → (body : List ℕ) → Good nowhere (make a s body)
   unfolding make
   makes n s q body = makes-at n (lowest_free a.conn.slots) (first_says is_free a.conn.slots vacant) s q body
 
   syns : (place : Place) → Same h a → (full : ℕ) (b : Bool) (s : Stream) → Off s → (body : List ℕ) →
-      Ok place (syn_rules a h.stream_id place full (cond b (go_away a protocol_error) (make a s body)))
+      Good place (syn_rules a h.stream_id place full (cond b (go_away a protocol_error) (make a s body)))
   unfolding syn_rules
-  syns (at i) n full b s q body = split (Ok (at i)) (is_remote a.conn.config.mode h.stream_id) (λ r. away (at i) n _) (λ r. away (at i) n _)
+  syns (at i) n full b s q body = split (Good (at i)) (is_remote a.conn.config.mode h.stream_id) (λ r. away (at i) n _) (λ r. away (at i) n _)
   syns nowhere n full b s q body =
-      split (Ok nowhere) (is_remote a.conn.config.mode h.stream_id)
+      split (Good nowhere) (is_remote a.conn.config.mode h.stream_id)
       (λ r.
-      split (Ok nowhere) (leb a.conn.config.max_num_streams (listed_count a.conn.slots))
+      split (Good nowhere) (leb a.conn.config.max_num_streams (listed_count a.conn.slots))
       (λ m. away nowhere n _)
-      (λ m. split (Ok nowhere) b (λ e. away nowhere n _) (λ e. makes n s q body)))
+      (λ m. split (Good nowhere) b (λ e. away nowhere n _) (λ e. makes n s q body)))
       (λ r. away nowhere n _)
 
   takes : (i : ℕ) → Acks a h.stream_id (at i) → (body : List ℕ) (b : Bool) (s : Stream) (w : StreamWakes) → Woken reader writer (entry a.conn.slots i).stream s w.reader w.writer →
-      Fewer (entry a.conn.slots i).stream s → Ok (at i) (take_at i a h body (cond b (Taken s w) ProtocolError))
+      Fewer (entry a.conn.slots i).stream s → Good (at i) (take_at i a h body (cond b (received s w) invalid))
   unfolding take_at
   takes i k body false s w m f = away (at i) (same h a k) protocol_error
   takes i k body true s w m f =
-      split (Ok (at i)) (ltb (room a.conn) (length body))
+      split (Good (at i)) (ltb (room a.conn) (length body))
       (λ r. undone a.before a (at i) reader writer reply.NoRoom refl refl refl)
       (λ r. changes i k w (taken_entry (entry a.conn.slots i) s (contains h.flags fin) body) m f)
 
@@ -214,7 +205,7 @@ fin_keeps true mark e = true-not-false e refl
 fin_keeps false mark e = e
 
 module _ (h : Header) (a : Acked) (now : ℕ) where
-  abbrev After : Tag → Place → Result → Type 0
+  abbrev After : Tag → Place → Effect → Type 0
   After t place r = Passes a.before a place (wakes_reader t h) (wakes_writer t h) r
 
   known-data : contains h.flags rst ≡ false → (place : Place) → Acks a h.stream_id place → (body : List ℕ) → After tag.Data place (known_data a h body place)
@@ -282,19 +273,19 @@ module _ (c : Conn) (v : Inv c) (live : c.ended ≡ false) (h : Header) (body : 
   abbrev place : Place
   place = find c.slots h.stream_id
 
-  abbrev FrameOk : Acked → Tag → Result → Type 0
+  abbrev FrameOk : Acked → Tag → Effect → Type 0
   FrameOk a t r = Passes c a place (wakes_reader t h) (wakes_writer t h) r
 
   -- what is so after any ACK step is so after this one
-  after : (t : Tag) (rest : Acked → Result) → ((a : Acked) → Acks a h.stream_id place → After h a now t place (rest a)) → FrameOk (ack_step c h place) t (rest (ack_step c h place))
+  after : (t : Tag) (rest : Acked → Effect) → ((a : Acked) → Acks a h.stream_id place → After h a now t place (rest a)) → FrameOk (ack_step c h place) t (rest (ack_step c h place))
   after t rest f =
       let l = first_says (has_id h.stream_id) c.slots vacant in
       after-ack c v live h place l (λ a. FrameOk a t (rest a)) (λ b w. f _ (unmoved c v live h.stream_id b w place l)) (f _ (acknowledges c v live h.stream_id place l))
 
-  pongs : (p : Pong) → FrameOk (unacked c) tag.Ping (pong_rules c p)
+  pongs : (p : Result Rtt UnexpectedPong) → FrameOk (unacked c) tag.Ping (pong_rules c p)
   unfolding pong_rules
-  pongs Unexpected = still c (unacked c) place _ _ refl refl refl refl refl
-  pongs (Accepted p) = still c (unacked c) place _ _ refl refl refl refl refl
+  pongs (Err _) = still c (unacked c) place _ _ refl refl refl refl refl
+  pongs (Ok p) = still c (unacked c) place _ _ refl refl refl refl refl
 
   pings : FrameOk (unacked c) tag.Ping (ping_rules c h now)
   unfolding ping_rules

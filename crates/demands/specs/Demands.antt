@@ -1,16 +1,15 @@
 -- The words of the demands. Sentences in quotes are document 01's.
-use Rattle.std.specs.Prelude.{◌≡◌, Bool, true, false, cond, not, List, ℕ, ◌+◌, ◌<◌, length, eqb, ltb, leb}
+use Rattle.std.specs.Prelude.{◌≡◌, Bool, true, false, cond, not, List, ℕ, ◌+◌, ◌<◌, length, eqb, ltb, leb, Ok, Result, Err}
 use Rattle.frame.specs.Header.{contains, syn, rst, initial_window}
 use Rattle.frame.specs.Wire.{decoded}
 use Rattle.frame.specs.declared.header.Header.{Header}
 use Rattle.frame.specs.declared.header.Tag.{Tag}
 use Rattle.frame.specs.declared.header.Tag.TheVariants as tag
-use Rattle.frame.specs.declared.header.Decoded.{Decoded}
-use Rattle.frame.specs.declared.header.Decoded.TheVariants as found
+use Rattle.frame.specs.declared.header.HeaderDecodeError.{HeaderDecodeError}
+use Rattle.frame.specs.declared.header.HeaderDecodeError.TheVariants as found
 use Rattle.flow_control.specs.Windows.{top}
 use Rattle.rules.specs.declared.Settings.{Settings}
 use Rattle.rules.specs.declared.Config.{Config}
-use Rattle.rules.specs.declared.Checked.TheVariants.{Fine}
 use Rattle.rules.specs.Settings.{checked, last_time}
 use Rattle.rules.specs.Lists.{Place, at, nowhere, sum}
 use Rattle.rules.specs.State.{Entry, Conn, initial, entry, one, find, listed_count, unacknowledged, room, is_remote}
@@ -21,7 +20,7 @@ use Rattle.rules.specs.Step as rules
 -- The states that accepted settings and any calls lead to: any frames in any order, with any flags and ids, any times and
 -- any arguments. No bound is put on the calls, not even that a byte is below 256 or that a number has 64 bits.
 pub data Reach : Conn → Type 0 where
-  new : {c : Config} (s : Settings) → checked s ≡ Fine c → Reach (initial c)
+  new : {c : Config} (s : Settings) → checked s ≡ Ok c → Reach (initial c)
   then : {c : Conn} → Reach c → (k : rules.Call) → Reach (rules.step c k).after
 
 -- "A slot is in use while its handle is held": the handles held, in the table or not
@@ -38,11 +37,11 @@ and a b = cond a b false
 -- ---- what a frame would do
 
 -- "Order, frame: 10, 5 (ended), 11, 12, 13, the rules below": whether a frame comes to the rules, and its header is as asked
-abbrev pub ruled : Decoded → Conn → ℕ → List ℕ → (Header → Bool) → Bool
-ruled found.Size c now body test = false
-ruled (found.Version v) c now body test = false
-ruled (found.Type t) c now body test = false
-ruled (found.Header h) c now body test =
+abbrev pub ruled : Result Header HeaderDecodeError → Conn → ℕ → List ℕ → (Header → Bool) → Bool
+ruled (Err found.Size) c now body test = false
+ruled (Err (found.Version v)) c now body test = false
+ruled (Err (found.Type t)) c now body test = false
+ruled (Ok h) c now body test =
     and (leb now last_time)
     (and (not c.ended)
     (and (eqb (length body) (body_length h.tag h.length.0))

@@ -1,22 +1,20 @@
 -- A handle that is still held after its stream was reset, and its number opened again. Sentences in quotes are document 01's.
-use Rattle.std.specs.Prelude.{◌≡◌, ◌≢◌, ◌⊎◌, true, false, List, [], ℕ, ◌-◌, ◌≤◌, min, length, take}
+use Rattle.std.specs.Prelude.{◌≡◌, ◌≢◌, ◌⊎◌, true, false, List, [], ℕ, ◌-◌, ◌≤◌, min, length, take, Some, None, Result, Ok, Err}
 use Rattle.frame.specs.Wire.{decoded}
-use Rattle.frame.specs.declared.header.Decoded.{Decoded}
-use Rattle.frame.specs.declared.header.Decoded.TheVariants as found
+use Rattle.frame.specs.declared.header.HeaderDecodeError.{HeaderDecodeError}
+use Rattle.frame.specs.declared.header.HeaderDecodeError.TheVariants as found
 use Rattle.stream.specs.Streams.{dropped}
-use Rattle.stream.specs.declared.Sent.TheVariants.{Nothing}
 use Rattle.rules.specs.declared.Reply.TheVariants as reply
-use Rattle.rules.specs.declared.Which.TheVariants as which
-use Rattle.rules.specs.declared.Value.TheVariants as value
 use Rattle.rules.specs.Replies.{Outcome}
 use Rattle.rules.specs.Settings.{last_time}
 use Rattle.rules.specs.Lists.{at}
 use Rattle.rules.specs.State.{Entry, Conn, vacant, entry, with_slot, with_slots, with_growth, find}
-use Rattle.rules.specs.Ending.{Result, gives, refuse}
+use Rattle.rules.specs.Ending.{Effect, gives, refuse}
 use Rattle.rules.specs.Calls.{growth_of, on_slot, read_entry, removed_entry, drop_wakes}
 use Rattle.rules.specs.Step.{step}
 use Rattle.rules.specs.Step as rules
 use Rattle.demands.specs.Demands.{Reach}
+use Rattle.frame.specs.declared.header.Header.{Header}
 
 -- Slot `old` is held and its stream is outside the table; the stream of slot `new` is in the table and has the same number.
 pub record Stale (c : Conn) (old new : ℕ) : Type 0 where
@@ -32,7 +30,7 @@ StaleRead =
     (c : Conn) (old new : ℕ) → Stale c old new → (now asked : ℕ) → now ≤ last_time →
     let e = entry c.slots old in
     let n = min asked (length e.bytes) in
-    step c (rules.read now old asked) ≡ gives (on_slot old reply.Done (value.Of n) Nothing (take n e.bytes)) (with_slot c old (read_entry e e.stream n))
+    step c (rules.read now old asked) ≡ gives (on_slot old reply.Done (Some n) None (take n e.bytes)) (with_slot c old (read_entry e e.stream n))
 
 -- Write on the old handle: 6, nothing changed.
 abbrev pub StaleWrite : Type 0
@@ -44,7 +42,7 @@ StaleWrite =
 abbrev pub StaleClose : Type 0
 StaleClose =
     (c : Conn) (old new : ℕ) → Stale c old new → (now : ℕ) → now ≤ last_time →
-    step c (rules.close now old) ≡ gives (on_slot old reply.Done value.None Nothing []) c
+    step c (rules.close now old) ≡ gives (on_slot old reply.Done None None []) c
 
 -- Of the connection, the growth figure and the slots alone change.
 abbrev pub OnlySlots : Conn → Conn → Type 0
@@ -55,8 +53,8 @@ OnlySlots c d = d ≡ with_slots (with_growth c d.growth) d.slots
 abbrev pub removes : ℕ → Entry → Outcome
 removes i e = record {
   reply = reply.Done;
-  slot = which.At (record { 0 = i });
-  value = value.None;
+  slot = Some (record { 0 = i });
+  value = None;
   header = (dropped e.stream).sent;
   body = [];
   wakes = drop_wakes (dropped e.stream).wakes;
@@ -85,7 +83,7 @@ StaleDropThenNew =
     (c : Conn) (old new : ℕ) → Stale c old new → (now later : ℕ) → now ≤ last_time → later ≤ last_time →
     let d = (step c (rules.drop now old)).after in
     let r = step d (rules.drop later new) in
-    (r.outcome ≡ on_slot new reply.Done value.None Nothing [])
+    (r.outcome ≡ on_slot new reply.Done None None [])
     × OnlySlots c r.after
     × (r.after.growth ≡ c.growth - growth_of (entry c.slots old) - growth_of (entry c.slots new))
     × (entry r.after.slots old ≡ vacant)
@@ -94,7 +92,7 @@ StaleDropThenNew =
 
 -- A drop that takes the slot's own stream out of the table: its RST or FIN is given, its waits are woken, its slot is free, and the
 -- figure falls by its own growth. No other slot changes.
-abbrev pub Drops : Conn → ℕ → Result → Type 0
+abbrev pub Drops : Conn → ℕ → Effect → Type 0
 Drops c i r =
     (r.outcome ≡ removes i (entry c.slots i))
     × OnlySlots c r.after
@@ -109,11 +107,11 @@ NewDrop = (c : Conn) (old new : ℕ) → Stale c old new → (now : ℕ) → now
 
 -- ---- the slot that a call is about
 
-abbrev pub IsAboutDecoded : Decoded → Conn → ℕ → Type 0
-IsAboutDecoded found.Size c j = ⊥
-IsAboutDecoded (found.Version v) c j = ⊥
-IsAboutDecoded (found.Type t) c j = ⊥
-IsAboutDecoded (found.Header h) c j = find c.slots h.stream_id ≡ at j
+abbrev pub IsAboutDecoded : Result Header HeaderDecodeError → Conn → ℕ → Type 0
+IsAboutDecoded (Err found.Size) c j = ⊥
+IsAboutDecoded (Err (found.Version v)) c j = ⊥
+IsAboutDecoded (Err (found.Type t)) c j = ⊥
+IsAboutDecoded (Ok h) c j = find c.slots h.stream_id ≡ at j
 
 -- A frame is about the slot of the stream that it names, if that is in the table; a call on a handle is about its slot, and a drop
 -- also about the stream in the table that has the number. (An open, or a frame that makes a stream, takes a slot that is not held.)

@@ -1,26 +1,22 @@
 -- A history beside the state: the bytes that each held handle accepted since it was made, and those that its reads gave.
-use Rattle.std.specs.Prelude.{◌≡◌, Bool, true, false, cond, List, [], ◌++◌, ℕ, eqb}
+use Rattle.std.specs.Prelude.{◌≡◌, Bool, true, false, cond, List, [], ◌++◌, ℕ, eqb, Option, Some, None, Ok, Result, Err}
 use Rattle.frame.specs.Header.{contains, rst}
 use Rattle.frame.specs.Wire.{decoded}
 use Rattle.frame.specs.declared.header.Header.{Header}
 use Rattle.frame.specs.declared.header.Tag.{Tag}
 use Rattle.frame.specs.declared.header.Tag.TheVariants as tag
-use Rattle.frame.specs.declared.header.Decoded.{Decoded}
-use Rattle.frame.specs.declared.header.Decoded.TheVariants as found
+use Rattle.frame.specs.declared.header.HeaderDecodeError.{HeaderDecodeError}
+use Rattle.frame.specs.declared.header.HeaderDecodeError.TheVariants as found
 use Rattle.rules.specs.declared.Config.{Config}
 use Rattle.rules.specs.declared.Settings.{Settings}
-use Rattle.rules.specs.declared.Checked.TheVariants.{Fine}
 use Rattle.rules.specs.declared.Reply.{Reply}
 use Rattle.rules.specs.declared.Reply.TheVariants as reply
-use Rattle.rules.specs.declared.Which.{Which}
-use Rattle.rules.specs.declared.Which.TheVariants as which
-use Rattle.rules.specs.declared.Value.{Value}
-use Rattle.rules.specs.declared.Value.TheVariants as value
 use Rattle.rules.specs.Replies.{Outcome}
 use Rattle.rules.specs.Lists.{Place, at, nowhere}
 use Rattle.rules.specs.Settings.{checked}
 use Rattle.rules.specs.State.{Conn, initial, find}
 use Rattle.rules.specs.Step as rules
+use Rattle.rules.specs.declared.Slot.{Slot}
 
 -- ---- what a call did to bytes, as told by the call and its answer
 
@@ -47,10 +43,10 @@ brought tag.Ping h body place = nothing
 brought tag.GoAway h body place = nothing
 
 -- an answer that names a slot and a new id made a handle there
-abbrev pub tells : Which → Value → List ℕ → Event → Event
-tells (which.At i) (value.Of v) body else = made i.0 body
-tells (which.At i) value.None body else = else
-tells which.None v body else = else
+abbrev pub tells : Option Slot → Option ℕ → List ℕ → Event → Event
+tells (Some i) (Some v) body else = made i.0 body
+tells (Some i) None body else = else
+tells None v body else = else
 
 abbrev pub is_done : Reply → Bool
 is_done reply.Done = true
@@ -72,11 +68,11 @@ is_done reply.Size = false
 abbrev pub by_tag : Tag → Header → List ℕ → Place → Outcome → Event
 by_tag t h body place o = cond (is_done o.reply) (tells o.slot o.value body (brought t h body place)) nothing
 
-abbrev pub by_frame : Decoded → Conn → List ℕ → Outcome → Event
-by_frame found.Size c body o = nothing
-by_frame (found.Version v) c body o = nothing
-by_frame (found.Type t) c body o = nothing
-by_frame (found.Header h) c body o = by_tag h.tag h body (find c.slots h.stream_id) o
+abbrev pub by_frame : Result Header HeaderDecodeError → Conn → List ℕ → Outcome → Event
+by_frame (Err found.Size) c body o = nothing
+by_frame (Err (found.Version v)) c body o = nothing
+by_frame (Err (found.Type t)) c body o = nothing
+by_frame (Ok h) c body o = by_tag h.tag h body (find c.slots h.stream_id) o
 
 abbrev pub event : Conn → rules.Call → Outcome → Event
 event c (rules.tick now) o = nothing
@@ -109,5 +105,5 @@ noted (freed i) h = put i unheard h
 
 -- A state that accepted settings and any calls lead to, and its history.
 pub data Story : Conn → (ℕ → Heard) → Type 0 where
-  new : {c : Config} (s : Settings) → checked s ≡ Fine c → Story (initial c) (λ i. unheard)
+  new : {c : Config} (s : Settings) → checked s ≡ Ok c → Story (initial c) (λ i. unheard)
   then : {c : Conn} {h : ℕ → Heard} → Story c h → (k : rules.Call) → Story (rules.step c k).after (noted (event c k (rules.step c k).outcome) h)

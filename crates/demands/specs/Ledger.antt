@@ -1,22 +1,15 @@
 -- Credit as a ledger: for each held handle, the credit and the bytes of the frames that went out and came in since it was made, and
 -- what they say of windows and of the limit. Nothing is read off a window: the numbers are those of headers and bodies on the wire.
-use Rattle.std.specs.Prelude.{◌≡◌, Bool, true, cond, List, [], ◌∷◌, ℕ, suc, ◌+◌, ◌-◌, ◌*◌, ◌≤◌, length}
+use Rattle.std.specs.Prelude.{◌≡◌, Bool, true, cond, List, [], ◌∷◌, ℕ, suc, ◌+◌, ◌-◌, ◌*◌, ◌≤◌, length, Option, Some, None, Ok, Result, Err}
 use Rattle.frame.specs.Header.{contains, rst, initial_window}
 use Rattle.frame.specs.Wire.{decoded}
 use Rattle.frame.specs.declared.header.Header.{Header}
 use Rattle.frame.specs.declared.header.Tag.{Tag}
 use Rattle.frame.specs.declared.header.Tag.TheVariants as tag
-use Rattle.frame.specs.declared.header.Decoded.{Decoded}
-use Rattle.frame.specs.declared.header.Decoded.TheVariants as found
-use Rattle.stream.specs.declared.Sent.{Sent}
-use Rattle.stream.specs.declared.Sent.TheVariants.{Frame, Nothing}
+use Rattle.frame.specs.declared.header.HeaderDecodeError.{HeaderDecodeError}
+use Rattle.frame.specs.declared.header.HeaderDecodeError.TheVariants as found
 use Rattle.rules.specs.declared.Config.{Config}
 use Rattle.rules.specs.declared.Settings.{Settings}
-use Rattle.rules.specs.declared.Checked.TheVariants.{Fine}
-use Rattle.rules.specs.declared.Which.{Which}
-use Rattle.rules.specs.declared.Which.TheVariants as which
-use Rattle.rules.specs.declared.Value.{Value}
-use Rattle.rules.specs.declared.Value.TheVariants as value
 use Rattle.rules.specs.Lists.{Place, at, nowhere}
 use Rattle.rules.specs.Replies.{Outcome}
 use Rattle.rules.specs.Settings.{checked, config_of}
@@ -26,6 +19,7 @@ use Rattle.rules.specs.Step as rules
 use Rattle.demands.specs.Demands.{Reach, held_count}
 use Rattle.demands.specs.History.{is_done, put}
 use Rattle.demands.specs.Witnesses.{client, head, zeros, syn_data, reset, From, grows}
+use Rattle.rules.specs.declared.Slot.{Slot}
 
 -- ---- a handle's account
 
@@ -57,9 +51,9 @@ came_in h body a = record {
 }
 
 -- a call on the handle gave a frame to send, or none; the bytes are as many as the header says
-abbrev pub went_out : Sent → Account → Account
-went_out Nothing a = a
-went_out (Frame h) a = record {
+abbrev pub went_out : Option Header → Account → Account
+went_out None a = a
+went_out (Some h) a = record {
   granted = a.granted + credit_in h.tag h.length.0;
   accepted = a.accepted;
   credited = a.credited;
@@ -74,21 +68,21 @@ booked_at (at i) h body b = put i (came_in h body (b i)) b
 booked_at nowhere h body b = b
 
 -- an answer that names a slot and a new id made a handle there, with this account
-abbrev pub opened : Which → Value → Account → (ℕ → Account) → (ℕ → Account) → ℕ → Account
-opened (which.At i) (value.Of v) a b else = put i.0 a b
-opened (which.At i) value.None a b else = else
-opened which.None v a b else = else
+abbrev pub opened : Option Slot → Option ℕ → Account → (ℕ → Account) → (ℕ → Account) → ℕ → Account
+opened (Some i) (Some v) a b else = put i.0 a b
+opened (Some i) None a b else = else
+opened None v a b else = else
 
 -- a frame that was done; with RST it brings neither credit nor bytes
 abbrev pub booked_frame : Header → List ℕ → Place → Outcome → (ℕ → Account) → ℕ → Account
 booked_frame h body place o b =
     cond (is_done o.reply) (cond (contains h.flags rst) b (opened o.slot o.value (came_in h body blank) b (booked_at place h body b))) b
 
-abbrev pub booked_decoded : Decoded → Conn → List ℕ → Outcome → (ℕ → Account) → ℕ → Account
-booked_decoded found.Size c body o b = b
-booked_decoded (found.Version v) c body o b = b
-booked_decoded (found.Type t) c body o b = b
-booked_decoded (found.Header h) c body o b = booked_frame h body (find c.slots h.stream_id) o b
+abbrev pub booked_decoded : Result Header HeaderDecodeError → Conn → List ℕ → Outcome → (ℕ → Account) → ℕ → Account
+booked_decoded (Err found.Size) c body o b = b
+booked_decoded (Err (found.Version v)) c body o b = b
+booked_decoded (Err (found.Type t)) c body o b = b
+booked_decoded (Ok h) c body o b = booked_frame h body (find c.slots h.stream_id) o b
 
 -- a handle that is made or dropped starts from nothing
 abbrev pub booked : Conn → rules.Call → Outcome → (ℕ → Account) → ℕ → Account
@@ -103,7 +97,7 @@ booked c (rules.gone now) o b = b
 
 -- A state that accepted settings and any calls lead to, and its accounts.
 pub data Books : Conn → (ℕ → Account) → Type 0 where
-  new : {c : Config} (s : Settings) → checked s ≡ Fine c → Books (initial c) (λ i. blank)
+  new : {c : Config} (s : Settings) → checked s ≡ Ok c → Books (initial c) (λ i. blank)
   then : {c : Conn} {b : ℕ → Account} → Books c b → (k : rules.Call) → Books (rules.step c k).after (booked c k (rules.step c k).outcome b)
 
 -- ---- the two sides of a stream

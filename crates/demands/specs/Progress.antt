@@ -1,31 +1,26 @@
 -- "Demand 2's rules exclude a table that refuses everything, one fixed reply, a table that never changes, and one that handles the
 -- first frame and then feigns the rest": in every reached state that goes on, what the rules allow is done, and is seen afterwards.
-use Rattle.std.specs.Prelude.{◌≡◌, ◌≢◌, ◌⊎◌, Bool, true, false, cond, not, List, [], ◌++◌, ℕ, ◌+◌, ◌≤◌, ◌<◌, length, take}
+use Rattle.std.specs.Prelude.{◌≡◌, ◌≢◌, ◌⊎◌, Bool, true, false, cond, not, List, [], ◌++◌, ℕ, ◌+◌, ◌≤◌, ◌<◌, length, take, Some, None, Ok}
 use Rattle.frame.specs.Header.{contains, syn, ack, fin, rst, session_id, data_header, ping_header, close_stream, with_syn, with_ack, with_fin, with_rst, initial_window}
 use Rattle.frame.specs.Wire.{decoded}
 use Rattle.frame.specs.declared.header.Header.{Header}
 use Rattle.frame.specs.declared.header.StreamId.{StreamId}
 use Rattle.frame.specs.declared.header.Tag.{Tag}
 use Rattle.frame.specs.declared.header.Tag.TheVariants as tag
-use Rattle.frame.specs.declared.header.Decoded.TheVariants as found
 use Rattle.rtt.specs.Pings.{elapsed, id_after}
 use Rattle.rtt.specs.declared.RttState.TheVariants.{Waiting, AwaitingPong}
-use Rattle.rtt.specs.declared.RoundTrip.TheVariants.{Known}
 use Rattle.flow_control.specs.Windows.{top}
 use Rattle.stream.specs.States.{can_write, is_closed, acknowledge, finish}
 use Rattle.stream.specs.Streams.{new_inbound, new_outbound, data_taken, add_flag, owes_ack, write_count}
 use Rattle.stream.specs.declared.State.{State}
 use Rattle.stream.specs.declared.State.TheVariants.{Open, SendClosed, RecvClosed, Closed}
 use Rattle.stream.specs.declared.Flag.TheVariants as owed
-use Rattle.stream.specs.declared.Sent.TheVariants.{Frame}
 use Rattle.rules.specs.declared.Reply.TheVariants as reply
-use Rattle.rules.specs.declared.Value.TheVariants as value
-use Rattle.rules.specs.declared.Which.TheVariants as which
 use Rattle.rules.specs.Replies.{Outcome, no_wakes, bare}
 use Rattle.rules.specs.Lists.{at}
 use Rattle.rules.specs.Settings.{last_time}
 use Rattle.rules.specs.State.{Entry, Conn, entry, with_pings, lowest_free, listed_count, unacknowledged, room}
-use Rattle.rules.specs.Ending.{Result, gives}
+use Rattle.rules.specs.Ending.{Effect, gives}
 use Rattle.rules.specs.Frames.{new_entry, opened_by, body_length}
 use Rattle.rules.specs.Calls.{on_slot}
 use Rattle.rules.specs.Step.{step}
@@ -37,7 +32,7 @@ use Rattle.demands.specs.Handles.{Drops}
 -- a frame of type t for the stream in slot i, its body as long as the type and the header say
 pub record FrameFor (t : Tag) (c : Conn) (i : ℕ) (head body : List ℕ) : Type 0 where
   pub header : Header
-  pub decodes : decoded head ≡ found.Header header
+  pub decodes : decoded head ≡ Ok header
   pub is_of : header.tag ≡ t
   pub names : header.stream_id ≡ (entry c.slots i).stream.id
   pub long : length body ≡ body_length t header.length.0
@@ -81,7 +76,7 @@ Credits i h old o new =
     × (new.stream.flow.send_window ≡ old.stream.flow.send_window + h.length.0)
     × (new.bytes ≡ old.bytes)
     × (o.wakes.writer ≡ old.stream.writer)
-    × (old.stream.writer ≡ true → o.slot ≡ which.At (record { 0 = i }))
+    × (old.stream.writer ≡ true → o.slot ≡ Some (record { 0 = i }))
     × (new.stream.writer ≡ false)
     × Goes h old new
 
@@ -112,15 +107,15 @@ ResetIsTaken =
     Resets (entry c.slots i) r.outcome (entry r.after.slots i)
 
 -- "the lowest free one is taken": the lowest slot that was free before the call is the one told, and holds the entry after it.
-abbrev pub InLowest : Conn → Result → Entry → Type 0
+abbrev pub InLowest : Conn → Effect → Entry → Type 0
 InLowest c r e =
-    (i : ℕ) × (lowest_free c.slots ≡ at i) × (r.outcome.slot ≡ which.At (record { 0 = i })) × (entry r.after.slots i ≡ e)
+    (i : ℕ) × (lowest_free c.slots ≡ at i) × (r.outcome.slot ≡ Some (record { 0 = i })) × (entry r.after.slots i ≡ e)
 
 -- Data that the rules would make a stream of is done where a slot and room for its body are left: the answer has the id and the
 -- lowest free slot, and that slot holds the stream, with the body queued and taken from its receive window.
 abbrev pub SynIsOpened : Type 0
 SynIsOpened =
-    (c : Conn) → Reach c → (now : ℕ) (head body : List ℕ) (h : Header) → decoded head ≡ found.Header h → h.tag ≡ tag.Data → h.length.0 ≡ length body →
+    (c : Conn) → Reach c → (now : ℕ) (head body : List ℕ) (h : Header) → decoded head ≡ Ok h → h.tag ≡ tag.Data → h.length.0 ≡ length body →
     now ≤ last_time → c.ended ≡ false → opens c h body ≡ true → length body ≤ room c → held_count c.slots < c.config.slots →
     let r = step c (rules.frame now head body) in
     Gave r h.stream_id.0
@@ -130,7 +125,7 @@ SynIsOpened =
 -- slot, and that slot holds the stream, its credit added to the send window, with no bytes.
 abbrev pub UpdateIsOpened : Type 0
 UpdateIsOpened =
-    (c : Conn) → Reach c → (now : ℕ) (head : List ℕ) (h : Header) → decoded head ≡ found.Header h → h.tag ≡ tag.WindowUpdate →
+    (c : Conn) → Reach c → (now : ℕ) (head : List ℕ) (h : Header) → decoded head ≡ Ok h → h.tag ≡ tag.WindowUpdate →
     now ≤ last_time → c.ended ≡ false → opens_by_credit c h ≡ true → held_count c.slots < c.config.slots →
     let r = step c (rules.frame now head []) in
     Gave r h.stream_id.0 × InLowest c r (new_entry (opened_by h now) [])
@@ -146,14 +141,14 @@ OpenIsGiven =
 
 -- "the window falls by n, and a Data frame carries the first n bytes": n bytes of those given are sent for slot i, under a Data header
 -- of the stream, of length n and with the flag that is owed, and then owed no more; "a write with ACK acknowledges".
-abbrev pub Sends : Conn → ℕ → List ℕ → ℕ → Result → Type 0
+abbrev pub Sends : Conn → ℕ → List ℕ → ℕ → Effect → Type 0
 Sends c i given n r =
     let s = (entry c.slots i).stream in
     (r.outcome ≡ record {
       reply = reply.Done;
-      slot = which.At (record { 0 = i });
-      value = value.Of n;
-      header = Frame (add_flag s.flag (data_header s.id (record { 0 = n })));
+      slot = Some (record { 0 = i });
+      value = Some n;
+      header = Some (add_flag s.flag (data_header s.id (record { 0 = n })));
       body = take n given;
       wakes = no_wakes;
       bytes = [];
@@ -173,7 +168,7 @@ WriteIsSent =
 
 -- done, with this value and header to send, no slot told and nobody woken
 abbrev pub ping_answer : ℕ → Header → Outcome
-ping_answer v h = record { reply = reply.Done; slot = which.None; value = value.Of v; header = Frame h; body = []; wakes = no_wakes; bytes = [] }
+ping_answer v h = record { reply = reply.Done; slot = None; value = Some v; header = Some h; body = []; wakes = no_wakes; bytes = [] }
 
 -- "id 0 or in the table"
 abbrev pub PingedAt : Conn → StreamId → Type 0
@@ -182,7 +177,7 @@ PingedAt c id = (id ≡ session_id) ⊎ ((i : ℕ) × ((entry c.slots i).listed 
 -- "Ping ACK, same value, stream 0": a Ping without ACK is answered so, and nothing changes.
 abbrev pub PingIsAnswered : Type 0
 PingIsAnswered =
-    (c : Conn) → Reach c → (now : ℕ) (head : List ℕ) (h : Header) → decoded head ≡ found.Header h → h.tag ≡ tag.Ping → contains h.flags ack ≡ false →
+    (c : Conn) → Reach c → (now : ℕ) (head : List ℕ) (h : Header) → decoded head ≡ Ok h → h.tag ≡ tag.Ping → contains h.flags ack ≡ false →
     now ≤ last_time → c.ended ≡ false → PingedAt c h.stream_id →
     step c (rules.frame now head []) ≡ gives (ping_answer h.length.0 (with_ack (ping_header h.length.0))) c
 
@@ -190,12 +185,12 @@ PingIsAnswered =
 -- pings alone change.
 abbrev pub PongIsTaken : Type 0
 PongIsTaken =
-    (c : Conn) → Reach c → (now sent : ℕ) (head : List ℕ) (h : Header) → decoded head ≡ found.Header h → h.tag ≡ tag.Ping → contains h.flags ack ≡ true →
+    (c : Conn) → Reach c → (now sent : ℕ) (head : List ℕ) (h : Header) → decoded head ≡ Ok h → h.tag ≡ tag.Ping → contains h.flags ack ≡ true →
     now ≤ last_time → c.ended ≡ false → c.pings.state ≡ AwaitingPong sent h.length.0 →
     step c (rules.frame now head []) ≡ gives (bare reply.Done) (with_pings c (record {
       state = Waiting (now + c.config.interval);
       next_id = c.pings.next_id;
-      round_trip = Known (elapsed sent now);
+      round_trip = Some (elapsed sent now);
     }))
 
 -- "no ping outstanding and due time <= now: Ping SYN with the next id, which runs from 4294967295 to 0": then the pong of that id is
@@ -226,7 +221,7 @@ CloseIsSent =
     (c : Conn) (now i : ℕ) → now ≤ last_time → (entry c.slots i).held ≡ true → (entry c.slots i).stream.state ≢ Closed →
     let s = (entry c.slots i).stream in
     let r = step c (rules.close now i) in
-    (r.outcome ≡ on_slot i reply.Done value.None (Frame (close_stream s.id (owes_ack s.flag))) [])
+    (r.outcome ≡ on_slot i reply.Done None (Some (close_stream s.id (owes_ack s.flag))) [])
     × ((entry r.after.slots i).stream.state ≡ fin_sent s.state)
     × ((entry r.after.slots i).stream.flag ≡ cond (owes_ack s.flag) owed.None s.flag)
 
@@ -238,5 +233,5 @@ DropIsSent =
     let s = (entry c.slots i).stream in
     let r = step c (rules.drop now i) in
     Drops c i r
-    × ((a : Bool) → s.state ≡ Open a → r.outcome.header ≡ Frame (with_rst (data_header s.id (record { 0 = 0 }))))
-    × (s.state ≡ RecvClosed → r.outcome.header ≡ Frame (with_fin (data_header s.id (record { 0 = 0 }))))
+    × ((a : Bool) → s.state ≡ Open a → r.outcome.header ≡ Some (with_rst (data_header s.id (record { 0 = 0 }))))
+    × (s.state ≡ RecvClosed → r.outcome.header ≡ Some (with_fin (data_header s.id (record { 0 = 0 }))))

@@ -1,26 +1,20 @@
 -- The third demand, and what answers carry, each as a statement that can be read without its proof. `proofs/Theorems.antt` proves
 -- each under the same name in lower case. `Reach c` is any state that accepted settings and any calls lead to.
-use Rattle.std.specs.Prelude.{◌≡◌, ◌≢◌, Bool, true, false, cond, List, [], ◌∷◌, ◌++◌, ℕ, zero, suc, ◌+◌, ◌-◌, ◌*◌, ◌%◌, ◌≤◌, ◌<◌, min, length, take, drop}
+use Rattle.std.specs.Prelude.{◌≡◌, ◌≢◌, Bool, true, false, cond, List, [], ◌∷◌, ◌++◌, ℕ, zero, suc, ◌+◌, ◌-◌, ◌*◌, ◌%◌, ◌≤◌, ◌<◌, min, length, take, drop, Option, Some, None, Ok}
 use Rattle.frame.specs.Header.{initial_window}
 use Rattle.frame.specs.Wire.{decoded}
 use Rattle.frame.specs.declared.header.Header.{Header}
 use Rattle.frame.specs.declared.header.StreamId.{StreamId}
-use Rattle.frame.specs.declared.header.Decoded.TheVariants as found
 use Rattle.flow_control.specs.Windows.{top}
 use Rattle.stream.specs.declared.State.TheVariants.{Closed}
-use Rattle.stream.specs.declared.Sent.TheVariants.{Nothing}
 use Rattle.rules.specs.declared.Settings.{Settings}
 use Rattle.rules.specs.declared.Config.{Config}
-use Rattle.rules.specs.declared.Checked.TheVariants.{Fine}
 use Rattle.rules.specs.declared.Mode.{Mode}
 use Rattle.rules.specs.declared.Mode.TheVariants.{Client, Server}
 use Rattle.rules.specs.declared.Reply.TheVariants as reply
-use Rattle.rules.specs.declared.Which.TheVariants as which
-use Rattle.rules.specs.declared.Value.{Value}
-use Rattle.rules.specs.declared.Value.TheVariants as value
 use Rattle.rules.specs.Settings.{checked, last_time}
 use Rattle.rules.specs.State.{Conn, initial, vacant, entry, one, first_own, is_own, listed_count, unread_total, room}
-use Rattle.rules.specs.Ending.{Result, gives}
+use Rattle.rules.specs.Ending.{Effect, gives}
 use Rattle.rules.specs.Calls.{growth_of, on_slot}
 use Rattle.rules.specs.Step.{step, run}
 use Rattle.rules.specs.Step as rules
@@ -105,7 +99,7 @@ ReadsGiveAll =
 abbrev pub EndedReadsGiveNone : Type 0
 EndedReadsGiveNone =
     (c : Conn) → (now i asked : ℕ) → now ≤ last_time → ended_for_reads c ≡ true → (entry c.slots i).held ≡ true →
-    step c (rules.read now i asked) ≡ gives (on_slot i reply.Done (value.Of 0) Nothing []) c
+    step c (rules.read now i asked) ≡ gives (on_slot i reply.Done (Some 0) None []) c
 
 -- All unread bytes are within the pool, so that "P less all unread bytes" hides nothing.
 abbrev pub UnreadIsWithin : Type 0
@@ -135,15 +129,15 @@ abbrev pub SameHeld : Conn → Conn → Type 0
 SameHeld c d = (i : ℕ) → (entry d.slots i).held ≡ (entry c.slots i).held
 
 -- that a call gave a new id
-abbrev pub Gave : Result → ℕ → Type 0
-Gave r id = (r.outcome.reply ≡ reply.Done) × (r.outcome.value ≡ value.Of id)
+abbrev pub Gave : Effect → ℕ → Type 0
+Gave r id = (r.outcome.reply ≡ reply.Done) × (r.outcome.value ≡ Some id)
 
 -- one handle more is held: the answer has the id and a slot that was free, and that slot's stream is in the table and has the id
-abbrev pub Opened : Conn → StreamId → Result → Type 0
+abbrev pub Opened : Conn → StreamId → Effect → Type 0
 Opened c id r =
     (held_count r.after.slots ≡ held_count c.slots + 1)
     × Gave r id.0
-    × ((i : ℕ) × (r.outcome.slot ≡ which.At (record { 0 = i })) × ((entry c.slots i).held ≡ false)
+    × ((i : ℕ) × (r.outcome.slot ≡ Some (record { 0 = i })) × ((entry c.slots i).held ≡ false)
     × (let e = entry r.after.slots i in (e.held ≡ true) × (e.listed ≡ true) × (e.stream.id ≡ id)))
 
 -- The rules make a stream of a frame exactly where `would_open` says so, a slot is free and there is room. (With all slots in use the
@@ -153,7 +147,7 @@ WouldOpenIsExact =
     (c : Conn) → Reach c → (now : ℕ) (head body : List ℕ) →
     let r = step c (rules.frame now head body) in
     (would_open c now head body ≡ true → held_count c.slots < c.config.slots → length body ≤ room c →
-    (h : Header) × (decoded head ≡ found.Header h) × Opened c h.stream_id r)
+    (h : Header) × (decoded head ≡ Ok h) × Opened c h.stream_id r)
     × (would_open c now head body ≡ false → SameHeld c r.after)
 
 -- With handles held, counting one that the frame would open, at most n, a pool of the limit and 262,144 for each of the n beyond
@@ -215,9 +209,9 @@ is_open (rules.drop now i) = false
 is_open (rules.gone now) = false
 
 -- the id that a call gave, where it is an open that was done; else none
-abbrev pub id_in : Value → List ℕ
-id_in (value.Of id) = id ∷ []
-id_in value.None = []
+abbrev pub id_in : Option ℕ → List ℕ
+id_in (Some id) = id ∷ []
+id_in None = []
 
 abbrev pub id_of : rules.Call → Outcome → List ℕ
 id_of k o = cond (and (is_open k) (is_done o.reply)) (id_in o.value) []
@@ -235,7 +229,7 @@ by_two (suc n) first = first ∷ by_two n (first + 2)
 -- "ids start at 1 (client) or 2 (server) and go by 2": whatever calls stand between, those are the ids that a connection's opens give.
 abbrev pub IdsGoByTwo : Type 0
 IdsGoByTwo =
-    (s : Settings) (c : Config) → checked s ≡ Fine c → (ks : List rules.Call) →
+    (s : Settings) (c : Config) → checked s ≡ Ok c → (ks : List rules.Call) →
     let given = ids (initial c) ks in
     given ≡ by_two (length given) (first_own c.mode)
 
@@ -281,7 +275,7 @@ RefusalsChangeNothing = (c : Conn) → Reach c → (k : rules.Call) → leaves_a
 
 -- "`-` in all but number, reply and wakes"
 abbrev pub Bare : Outcome → Type 0
-Bare o = (o.slot ≡ which.None) × (o.value ≡ value.None) × (o.header ≡ Nothing) × (o.body ≡ []) × (o.bytes ≡ [])
+Bare o = (o.slot ≡ None) × (o.value ≡ None) × (o.header ≡ None) × (o.body ≡ []) × (o.bytes ≡ [])
 
 -- "replies but 0, 1 and 2 give neither"; "refusals 3 to 13 have `-` ..", and so has 14.
 abbrev pub OnlyDoneGives : Type 0

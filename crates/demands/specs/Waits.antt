@@ -1,16 +1,14 @@
 -- "Woken means: cleared and reported if it was waiting. Only this or ending clears a wait." Sentences in quotes are document 01's.
-use Rattle.std.specs.Prelude.{◌≡◌, ◌⊎◌, ◌≢◌, Bool, true, false, cond, List, ℕ}
+use Rattle.std.specs.Prelude.{◌≡◌, ◌⊎◌, ◌≢◌, Bool, true, false, cond, List, ℕ, Some, None, Result, Ok, Err}
 use Rattle.frame.specs.Header.{contains, ack, fin, rst}
 use Rattle.frame.specs.Wire.{decoded}
 use Rattle.frame.specs.declared.header.Header.{Header}
 use Rattle.frame.specs.declared.header.Tag.{Tag}
 use Rattle.frame.specs.declared.header.Tag.TheVariants as tag
-use Rattle.frame.specs.declared.header.Decoded.{Decoded}
-use Rattle.frame.specs.declared.header.Decoded.TheVariants as found
+use Rattle.frame.specs.declared.header.HeaderDecodeError.{HeaderDecodeError}
+use Rattle.frame.specs.declared.header.HeaderDecodeError.TheVariants as found
 use Rattle.stream.specs.declared.Stream.{Stream}
 use Rattle.rules.specs.declared.Reply.TheVariants as reply
-use Rattle.rules.specs.declared.Value.TheVariants as value
-use Rattle.rules.specs.declared.Which.TheVariants as which
 use Rattle.rules.specs.declared.Woke.{Woke}
 use Rattle.rules.specs.Replies.{leaves_all}
 use Rattle.rules.specs.Lists.{Place, at, nowhere}
@@ -29,11 +27,11 @@ Sets before after = (before ≡ false) × (after ≡ true)
 
 -- ---- whose waits a call wakes
 
-abbrev pub woken_decoded : Decoded → Conn → Place
-woken_decoded found.Size c = nowhere
-woken_decoded (found.Version v) c = nowhere
-woken_decoded (found.Type t) c = nowhere
-woken_decoded (found.Header h) c = find c.slots h.stream_id
+abbrev pub woken_decoded : Result Header HeaderDecodeError → Conn → Place
+woken_decoded (Err found.Size) c = nowhere
+woken_decoded (Err (found.Version v)) c = nowhere
+woken_decoded (Err (found.Type t)) c = nowhere
+woken_decoded (Ok h) c = find c.slots h.stream_id
 
 -- A frame may wake the stream in the table that it names; a drop wakes the stream in the table that has the handle's number, which
 -- is the handle's own, or a newer one where the handle is stale. No other call wakes a reader or a writer.
@@ -89,7 +87,7 @@ WaitsAreReported =
 -- The stream that a call wakes had the mark, and has it no more. A frame tells that stream's slot, a drop its own.
 abbrev pub Waited : Conn → rules.Call → (Stream → Bool) → Type 0
 Waited c k mark =
-    (j : ℕ) × (woken c k ≡ at j) × ((step c k).outcome.slot ≡ which.At (record { 0 = told_for k j }))
+    (j : ℕ) × (woken c k ≡ at j) × ((step c k).outcome.slot ≡ Some (record { 0 = told_for k j }))
     × Clears (mark (entry c.slots j).stream) (mark (entry (step c k).after.slots j).stream)
 
 -- What is reported was waiting, and waits no more.
@@ -132,7 +130,7 @@ abbrev pub WaitsAreSet : Type 0
 WaitsAreSet =
     (c : Conn) → Reach c → (k : rules.Call) →
     let r = step c k in
-    r.outcome.reply ≡ reply.Wait → Waiting k r.after × (r.outcome.value ≡ value.None)
+    r.outcome.reply ≡ reply.Wait → Waiting k r.after × (r.outcome.value ≡ None)
 
 abbrev pub Opens : rules.Call → Type 0
 Opens k = (now : ℕ) × (k ≡ rules.open_stream now)
@@ -175,7 +173,7 @@ has_ack_step tag.GoAway = false
 -- "with ACK, .. an open wait is woken even for an unknown id": whatever the reply, but for those that change nothing (7, 8, 10, 13).
 abbrev pub AcksWakeTheOpen : Type 0
 AcksWakeTheOpen =
-    (c : Conn) → Reach c → (now : ℕ) (head body : List ℕ) (h : Header) → decoded head ≡ found.Header h → has_ack_step h.tag ≡ true →
+    (c : Conn) → Reach c → (now : ℕ) (head body : List ℕ) (h : Header) → decoded head ≡ Ok h → has_ack_step h.tag ≡ true →
     contains h.flags ack ≡ true → c.ended ≡ false →
     let r = step c (rules.frame now head body) in
     leaves_all r.outcome.reply ≡ false → IsWoken c.open_wait r.after.open_wait r.outcome.wakes.opener
@@ -196,7 +194,7 @@ wakes_writer tag.GoAway h = false
 -- A frame that is done for the stream in slot i of the table wakes those of it, and no other. (That the slot told is i, `ReportsAreOfWaits` says.)
 abbrev pub TakenWakes : Type 0
 TakenWakes =
-    (c : Conn) → Reach c → (now i : ℕ) (head body : List ℕ) (h : Header) → decoded head ≡ found.Header h → find c.slots h.stream_id ≡ at i →
+    (c : Conn) → Reach c → (now i : ℕ) (head body : List ℕ) (h : Header) → decoded head ≡ Ok h → find c.slots h.stream_id ≡ at i →
     let r = step c (rules.frame now head body) in
     let before = (entry c.slots i).stream in
     let after = (entry r.after.slots i).stream in

@@ -1,9 +1,7 @@
 -- Runs that the theorems speak of, by computation: that the demands are not met by doing nothing, and that their conditions are
 -- needed.
-use Rattle.std.specs.Prelude.{◌≡◌, true, false, List, [], ◌∷◌, ◌++◌, map, ℕ, zero, suc, ◌+◌, ◌/◌, ◌%◌, replicate}
+use Rattle.std.specs.Prelude.{◌≡◌, true, false, List, [], ◌∷◌, ◌++◌, map, ℕ, zero, suc, ◌+◌, ◌/◌, ◌%◌, replicate, Some, Ok}
 use Rattle.rules.specs.declared.Settings.{Settings}
-use Rattle.rules.specs.declared.Checked.TheVariants.{Fine}
-use Rattle.rules.specs.declared.Which.TheVariants as which
 use Rattle.rules.specs.Settings.{checked, config_of}
 use Rattle.rules.specs.Replies.{Outcome, number, no_wakes}
 use Rattle.rules.specs.State.{Conn, entry, initial}
@@ -49,7 +47,7 @@ ran s ks = run (initial (config_of s)) ks
 
 -- settings that are accepted, and what a run from them comes to
 abbrev pub From : Settings → List rules.Call → (rules.Ran → Type 0) → Type 0
-From s ks P = (checked s ≡ Fine (config_of s)) × P (ran s ks)
+From s ks P = (checked s ≡ Ok (config_of s)) × P (ran s ks)
 
 abbrev pub replies : List Outcome → List ℕ
 replies os = map (λ o. number o.reply) os
@@ -170,7 +168,7 @@ Runs =
     -- of a limit of M x 262,144 and 1,000 more, growth has the 1,000
     × From (client 4 1049576 4 4294967295) grows (λ r. r.after.growth ≡ 1000)
     -- a drop of the stale handle tells its own slot and the newer stream's reader
-    × From (client 2 1048576 2 64) stale_waits (λ r. (step r.after (rules.drop 0 0)).outcome.slot ≡ which.At (record { 0 = 0 }))
+    × From (client 2 1048576 2 64) stale_waits (λ r. (step r.after (rules.drop 0 0)).outcome.slot ≡ Some (record { 0 = 0 }))
     × From (client 2 1048576 2 64) stale_waits (λ r. (step r.after (rules.drop 0 0)).outcome.wakes.reader ≡ true)
     -- a mark outside the table goes with the handle, and is not told
     × From (client 2 1048576 2 64) keeps_mark (λ r. (entry r.after.slots 0).listed ≡ false)

@@ -1,10 +1,5 @@
 -- What lives is valid and reached, so every theorem of `demands` holds of it. Assumes nothing.
-use mathlib.Core.Path.{◌≡◌, refl, sym, ap, ◌∙◌}
-use mathlib.Core.Bool.{Bool, true, false}
-use mathlib.Core.List.{List, [], ◌∷◌, ◌++◌}
-use Prim.Native.Nat.{ℕ, ◌-◌, ◌<◌}
-use native.Mathlib.Omega.{arith}
-use lib.ListN.{length, take, drop}
+use Rattle.std.proofs.Common.{Result, Ok, Err, ◌≡◌, refl, sym, ap, ◌∙◌, Bool, true, false, List, [], ◌∷◌, ◌++◌, ℕ, ◌-◌, ◌<◌, arith, length, take, drop}
 use Rattle.rules.specs.Settings.{checked}
 use Rattle.connection.specs.declared.Done.{Done}
 use Rattle.rules.specs.Replies as replies
@@ -14,14 +9,12 @@ use Rattle.rules.specs.Step.{Call, step, run, frame, read}
 use Rattle.rules.specs.declared.Settings.{Settings}
 use Rattle.rules.proofs.Judging.{numbers_beyond}
 use Rattle.connection.proofs.Promises.{read_counted}
-use Rattle.rules.specs.declared.Checked.{Checked}
-use Rattle.rules.specs.declared.Checked.TheVariants as settings
 use Rattle.connection.specs.Abstract.{abs_of, Valid}
 use Rattle.connection.specs.Promises.{Follows}
 use Rattle.connection.specs.declared.Connection.{Connection}
 use Rattle.connection_open.specs.Start.{Creates, number, sized}
-use Rattle.connection_open.specs.declared.Created.{Created}
-use Rattle.connection_open.specs.declared.Created.TheVariants.{Made, Wrong, Size}
+use Rattle.connection_open.specs.declared.NotCreated.{NotCreated}
+use Rattle.connection_open.specs.declared.NotCreated.TheVariants.{Wrong, Size}
 use Rattle.trace.specs.Runs.{only, reads}
 use Rattle.trace.specs.Turns.{runs_from, RanAs}
 use Rattle.trace.specs.declared.Report.{Report}
@@ -36,6 +29,8 @@ use Rattle.demands.proofs.Theorems.{growth_is_a_sum, growth_is_within, windows_a
 use Rattle.demands.proofs.LedgerTheorems.{credit_is_a_ledger, sending_is_a_ledger, credit_is_within_the_limit, credit_is_within_for_handles, credit_in_the_table}
 use Rattle.demands_of_code.specs.Credit.{accounts, Ledger, Credit, TableCredit}
 use Rattle.demands_of_code.specs.Lives.{Lives, made, then, unsized, ran, unran, heard_over, Growth, Unread, Given, Room}
+use Rattle.rules.specs.declared.Config.{Config}
+use Rattle.rules.specs.declared.Setting.{Setting}
 
 -- valid, and the rules' state has this history and these accounts
 pub record Holds (c : Connection) (t l p : List ℕ) (h : ℕ → Heard) (b : ℕ → Account) : Type 0 where
@@ -44,18 +39,18 @@ pub record Holds (c : Connection) (t l p : List ℕ) (h : ℕ → Heard) (b : �
   pub kept : Books (abs_of c t l p) b
 
 -- what was made was not refused
-unmade : {A : Type 0} (c : Connection) (r : Created) → Made c ≡ r → 0 < number r → A
+unmade : {A : Type 0} (c : Connection) (r : Result Connection NotCreated) → Ok c ≡ r → 0 < number r → A
 unmade c r e n = absurd (omega (arith, ap number e, n))
 
 -- a connection is made of settings that are in range
-begins : (s : Settings) (t l p : List ℕ) (c : Connection) (t' l' p' : List ℕ) → Creates s t l p (Made c) t' l' p'
-    → (x : Checked) → checked s ≡ x → Holds c t' l' p' (λ i. story.unheard) (λ i. books.blank)
-begins s t l p c t' l' p' m (settings.Wrong w) e = unmade c (Wrong w) (m.wrong w e).0 (omega (arith, (numbers_beyond w).0))
-begins s t l p c t' l' p' m (settings.Fine k) e = go (sized k (length t) (length l) (length p)) refl
+begins : (s : Settings) (t l p : List ℕ) (c : Connection) (t' l' p' : List ℕ) → Creates s t l p (Ok c) t' l' p'
+    → (x : Result Config Setting) → checked s ≡ x → Holds c t' l' p' (λ i. story.unheard) (λ i. books.blank)
+begins s t l p c t' l' p' m (Err w) e = unmade c (Err (Wrong w)) (m.wrong w e).0 (omega (arith, (numbers_beyond w).0))
+begins s t l p c t' l' p' m (Ok k) e = go (sized k (length t) (length l) (length p)) refl
   where
     go : (b : Bool) → sized k (length t) (length l) (length p) ≡ b → Holds c t' l' p' (λ i. story.unheard) (λ i. books.blank)
     go true q = let n = m.made k e q in record { valid = n.0; told = rw n.1 (story.new s e); kept = rw n.1 (books.new s e) }
-    go false q = unmade c Size (m.sizes k e q).0 (omega arith)
+    go false q = unmade c (Err Size) (m.sizes k e q).0 (omega arith)
 
 -- a history and accounts go on over any calls
 goes_on : {c : Conn} {h : ℕ → Heard} → Story c h → (ks : List Call) → Story (run c ks).after (heard_over c ks h)

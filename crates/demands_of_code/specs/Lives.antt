@@ -1,5 +1,5 @@
 -- A connection and its lent memory after any calls and runs, and the third demand of them. Sentences are the demand's.
-use Rattle.std.specs.Prelude.{◌≡◌, ◌≢◌, Bool, true, false, List, [], ◌∷◌, ◌++◌, ℕ, ◌+◌, ◌-◌, ◌*◌, ◌≤◌, length, take, drop}
+use Rattle.std.specs.Prelude.{◌≡◌, ◌≢◌, Bool, true, false, List, [], ◌∷◌, ◌++◌, ℕ, ◌+◌, ◌-◌, ◌*◌, ◌≤◌, length, take, drop, Ok}
 use Rattle.frame.specs.Header.{initial_window}
 use Rattle.rules.specs.Replies.{count_of}
 use Rattle.rules.specs.State.{Entry, Conn, entry, one}
@@ -13,7 +13,6 @@ use Rattle.connection.specs.declared.Connection.{Connection}
 use Rattle.connection.specs.declared.Done.{Done}
 use Rattle.connection_read.specs.Promises.{Outputs}
 use Rattle.connection_open.specs.Start.{Creates}
-use Rattle.connection_open.specs.declared.Created.TheVariants.{Made}
 use Rattle.trace.specs.Runs.{reads}
 use Rattle.trace.specs.Turns.{runs_from, Runs}
 use Rattle.trace.specs.declared.Place.{Place}
@@ -30,7 +29,7 @@ heard_over c (k ∷ ks) h = heard_over (step c k).after ks (noted (event c k (st
 -- promise that every call is proved to keep, and as runs over a trace leave them that keep theirs, what is lent having the right
 -- size or not; and the bytes that each handle heard, of a run's calls as well.
 pub data Lives : Connection → List ℕ → List ℕ → List ℕ → (ℕ → Heard) → Type 0 where
-  made : {c : Connection} {t l p t' l' p' : List ℕ} (s : Settings) → Creates s t l p (Made c) t' l' p' → Lives c t' l' p' (λ i. unheard)
+  made : {c : Connection} {t l p t' l' p' : List ℕ} (s : Settings) → Creates s t l p (Ok c) t' l' p' → Lives c t' l' p' (λ i. unheard)
   then : {c : Connection} {t l p : List ℕ} {h : ℕ → Heard} → Lives c t l p h
       → (k : Call) (d : Done) (t' l' p' : List ℕ) → Promised true c t l p k d t' l' p'
       → Lives d.connection t' l' p' (noted (event (abs_of c t l p) k (step (abs_of c t l p) k).outcome) h)

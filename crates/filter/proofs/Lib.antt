@@ -1,3 +1,2 @@
 -- Laws of reading in parts.
-pub mod Keeping
 pub mod Feeding

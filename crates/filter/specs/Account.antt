@@ -1,5 +1,6 @@
 -- The account of a program's reads and writes. What std's `read` and `write_all` do to the world no contract says: the bytes that a read
--- brought are those that it left in the buffer, and the bytes put to be written are those that were passed on.
+-- brought are those that it left in the buffer, and the bytes put to be written are those that were passed on. Where the bytes that a reader
+-- has left or a writer holds are known, the contracts of `filter` say that they are these.
 use Rattle.std.specs.Prelude.{◌≡◌, List, [], ◌++◌, ℕ}
 
 -- the bytes that reads brought, in order, and the bytes that were put to be written, in order

@@ -1,30 +1,39 @@
 -- Where a program stands in its input and its output, before and after a read and a write.
-use Rattle.std.specs.Prelude.{◌≡◌, Bool, true, false, cond, List, [], ℕ, ◌-◌, ◌≤◌, ◌<◌, leb, eqb, ℤ, pos, negsuc, length, take, drop}
+use Rattle.std.specs.Prelude.{◌≡◌, Bool, true, false, cond, List, [], ℕ, ◌-◌, ◌≤◌, ◌<◌, leb, length, take, drop, Option, Some, None, is_some, unwrap_or, Result, Ok, Err, ⊤}
+use Rattle.std.specs.Io.KnownBytes.{Keeps, Consumes, IsAtEnd}
+use Rattle.std.specs.declared.io.Error.{Error}
 use Rattle.filter.specs.Account.{Account, reads, writes}
 use Rattle.filter.specs.declared.Standing.{Standing}
-use Rattle.filter.specs.declared.Got.{Got}
-use Rattle.filter.specs.declared.Got.TheVariants.{More, End, Failed}
-use Rattle.filter.specs.declared.Work.TheVariants.{Whole, Unread, Unwritten}
+use Rattle.filter.specs.declared.Fault.{Fault}
+use Rattle.filter.specs.declared.Fault.TheVariants.{Unread, Unwritten}
 
 -- nothing is read and nothing is put
 abbrev pub first : Standing
-first = record { at = 0; have = 0; put = 0; ended = false; done = false; work = Whole }
+first = record { at = 0; have = 0; put = 0; ended = false; outcome = None }
 
 -- After a read behind the first `front` bytes, which are those not yet taken: there is more; or the input has ended; or the read failed, and
 -- all is done.
-abbrev pub after_read : Standing → ℕ → Got → Standing
-after_read s front (More n) = record { at = 0; have = n; put = s.put; ended = s.ended; done = s.done; work = s.work }
-after_read s front End = record { at = 0; have = front; put = s.put; ended = true; done = s.done; work = s.work }
-after_read s front Failed = record { at = 0; have = front; put = s.put; ended = true; done = true; work = Unread }
+abbrev pub after_read : {E : Type 0} → Standing → ℕ → Result (Option ℕ) E → Standing
+after_read s front (Ok (Some n)) = record { at = 0; have = n; put = s.put; ended = s.ended; outcome = s.outcome }
+after_read s front (Ok None) = record { at = 0; have = front; put = s.put; ended = true; outcome = s.outcome }
+after_read s front (Err e) = record { at = 0; have = front; put = s.put; ended = true; outcome = Some (Err Unread) }
 
 -- after a write of all that was put: where it failed, all is done
-abbrev pub after_write : Standing → Bool → Standing
-after_write s true = record { at = s.at; have = s.have; put = 0; ended = s.ended; done = s.done; work = s.work }
-after_write s false = record { at = s.at; have = s.have; put = 0; ended = s.ended; done = true; work = Unwritten }
+abbrev pub after_write : {E : Type 0} → Standing → Result ⊤ E → Standing
+after_write s (Ok u) = record { at = s.at; have = s.have; put = 0; ended = s.ended; outcome = s.outcome }
+after_write s (Err e) = record { at = s.at; have = s.have; put = 0; ended = s.ended; outcome = Some (Err Unwritten) }
+
+-- whether all is done
+abbrev pub done : Standing → Bool
+done s = is_some s.outcome
+
+-- the work that reads and writes did: all of it where none failed
+abbrev pub work : Standing → Result ⊤ Fault
+work s = unwrap_or s.outcome (Ok tt)
 
 -- what was put is passed on to be written
 pub record Flushed (s : Standing) (out : List ℕ) (b : Account) (s' : Standing) : Type 0 where
-  pub written : Bool
+  pub written : Result ⊤ Error
   pub is : s' ≡ after_write s written
   pub puts : b ≡ writes (take s.put out)
 
@@ -35,20 +44,21 @@ Flushes s out s' = (b : Account) × Flushed s out b s'
 abbrev pub kept : List ℕ → ℕ → ℕ → List ℕ
 kept s from to = cond (leb to (length s)) (take (to - from) (drop from s)) []
 
--- What a read's answer means: below 0 it failed; where no byte is there that was not before, the input has ended; else there is more.
-abbrev pub answered : ℤ → ℕ → ℕ → Got
-answered (negsuc k) have end = Failed
-answered (pos k) have end = cond (eqb end have) End (More end)
-
 -- bytes read, one or more, come after those that are there, inside the buffer
-abbrev pub Inside : ℕ → ℕ → Got → Type 0
-Inside have size (More n) = (have < n) × (n ≤ size)
-Inside have size End = Unit {0}
-Inside have size Failed = Unit {0}
+abbrev pub Inside : {E : Type 0} → ℕ → ℕ → Result (Option ℕ) E → Type 0
+Inside have size (Ok (Some n)) = (have < n) × (n ≤ size)
+Inside have size (Ok None) = Unit {0}
+Inside have size (Err e) = Unit {0}
+
+-- What a read takes of a reader whose bytes are known: those that come after the ones that were there; or it is at its end; or nothing.
+abbrev pub Brings : {E : Type 0} → Option (List ℕ) → Option (List ℕ) → ℕ → List ℕ → Result (Option ℕ) E → Type 0
+Brings old new have input (Ok (Some n)) = Consumes old new (drop have (take n input))
+Brings old new have input (Ok None) = Keeps old new × IsAtEnd new
+Brings old new have input (Err e) = Keeps old new
 
 -- What was not taken of the input stands first in the buffer, and what a read brought comes after it.
 pub record Fed (s : Standing) (input : List ℕ) (b : Account) (s' : Standing) (input' : List ℕ) : Type 0 where
-  pub got : Got
+  pub got : Result (Option ℕ) Error
   pub is : s' ≡ after_read s (length (kept input s.at s.have)) got
   pub inside : Inside (length (kept input s.at s.have)) (length input) got
   pub front : take (length (kept input s.at s.have)) input' ≡ kept input s.at s.have
@@ -60,11 +70,11 @@ Feeds s input s' input' = (b : Account) × Fed s input b s' input'
 
 -- what was read stands from the buffer's start on, and nothing is taken of it or put
 abbrev pub holding : ℕ → Bool → Standing
-holding have ended = record { at = 0; have = have; put = 0; ended = ended; done = false; work = Whole }
+holding have ended = record { at = 0; have = have; put = 0; ended = ended; outcome = None }
 
 -- As many bytes are there as are asked for, or the input has ended; or a read failed.
 pub record Fills (least size : ℕ) (s : Standing) : Type 0 where
   pub inside : s.have ≤ size
-  pub live : s.done ≡ false → s ≡ holding s.have s.ended
+  pub live : done s ≡ false → s ≡ holding s.have s.ended
   pub enough : s.ended ≡ false → least ≤ s.have
-  pub failed : s.done ≡ true → s.work ≡ Unread
+  pub failed : done s ≡ true → work s ≡ Err Unread

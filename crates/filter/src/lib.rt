@@ -1,67 +1,146 @@
 // What programs share that read standard input in parts and write standard output: where such a program stands, a read and a write.
 #![tactic(auto)]
 
-ghost use Rattle.std.specs.Prelude.{◌≡◌, ◌++◌, min, ◌≤◌, length, take, drop};
-ghost use Rattle.filter.specs.Parts.{kept, Inside, answered, first, after_read, after_write, Flushes, Feeds, Fills};
+ghost use Rattle.std.specs.Prelude.{◌≡◌, ◌++◌, ◌≤◌, true, false, OnOk, length, take, drop};
+ghost use Rattle.std.specs.Io.KnownBytes.{Appends, Consumes, IsAtEnd};
+ghost use Rattle.filter.specs.Parts.{kept, Inside, Brings, first, after_read, after_write, done, work, Flushes, Feeds, Fills};
 
-use std::io::{Read, Write};
+use std::fmt;
+use std::io::{self, ErrorKind, Read, Write};
 
 // Where a program stands: the input that was read and not yet taken lies from `at` to `have`, and what is not yet written lies below
-// `put`; whether the input has ended; whether all is done; and the work that reads and writes did.
-#[derive(Clone, Copy)]
+// `put`; whether the input has ended; and, where all is done, whether every read and write did its work. Places, and no reader or writer with
+// a buffer: the buffers are lent, for nothing may allocate.
+#[derive(Clone, Copy, Debug, PartialEq, Eq)]
 pub struct Standing {
     pub at: usize,
     pub have: usize,
     pub put: usize,
     pub ended: bool,
-    pub done: bool,
-    pub work: Work,
+    pub outcome: Option<Result<(), Fault>>,
 }
 
-// Every read and write did its work, or one failed: a read, or a write; or there was none, for what was lent is of a wrong size. The program
-// whose work it is says so by its own name.
-#[derive(Clone, Copy)]
-pub enum Work {
-    Whole,
+// Why work is not whole: a read failed, or a write; or there was none, for what was lent is of a wrong size. The program whose work it is
+// says so by its own name.
+#[derive(Clone, Copy, Debug, PartialEq, Eq)]
+pub enum Fault {
     Unread,
     Unwritten,
     Unlent,
 }
 
-// What a read brought: as many bytes are there now, or the input has ended, or it failed.
-#[derive(Clone, Copy)]
-pub enum Got {
-    More(usize),
-    End,
-    Failed,
+impl fmt::Display for Fault {
+    fn fmt<W: fmt::Write>(&self, f: &mut fmt::Formatter<W>) -> fmt::Result {
+        f.write_str(match self {
+            Fault::Unread => "cannot read standard input",
+            Fault::Unwritten => "cannot write standard output",
+            Fault::Unlent => "what is lent is of a wrong size",
+        })
+    }
 }
 
-// What a read's answer means, where bytes are there up to `have` before it and up to `end` after it.
-fn answered(got: isize, have: usize, end: usize) -> Got
-    ensures { result ≡ answered got have end }
-{
-    if got < 0 {
-        return Got::Failed;
+impl Standing {
+    // Nothing is read and nothing is put.
+    pub fn first() -> Standing
+        ensures { result ≡ first }
+    {
+        Standing {
+            at: 0,
+            have: 0,
+            put: 0,
+            ended: false,
+            outcome: None,
+        }
     }
-    if end == have {
-        return Got::End;
+
+    // After a read behind the first `front` bytes of the buffer, which are those not yet taken: as many bytes are there now, or the input has
+    // ended, or the read failed.
+    pub fn after_read<E: Drop>(self, front: usize, got: Result<Option<usize>, E>) -> Standing
+        ensures { result ≡ after_read self front got }
+    {
+        let read = Standing {
+            at: 0,
+            have: front,
+            ..self
+        };
+        match got {
+            Ok(Some(have)) => Standing { have, ..read },
+            Ok(None) => Standing {
+                ended: true,
+                ..read
+            },
+            Err(_) => Standing {
+                ended: true,
+                outcome: Some(Err(Fault::Unread)),
+                ..read
+            },
+        }
     }
-    Got::More(end)
+
+    // After a write of all that was put, or of a part of it.
+    pub fn after_write<E: Drop>(self, written: Result<(), E>) -> Standing
+        ensures { result ≡ after_write self written }
+    {
+        let flushed = Standing { put: 0, ..self };
+        match written {
+            Ok(()) => flushed,
+            Err(_) => Standing {
+                outcome: Some(Err(Fault::Unwritten)),
+                ..flushed
+            },
+        }
+    }
+
+    // Moves what is left of the input to the front of the buffer, and reads more.
+    pub fn feed<R: Read>(self, input: &mut R, src: &mut [u8]) -> Standing
+        ensures feeds { Feeds self src.old result src.new }
+        ensures consumed { Consumes (R.remaining input.old) (R.remaining input.new) (drop (length (kept src.old self.at self.have)) (take result.have src.new)) }
+        ensures end { self.ended ≡ false → result.ended ≡ true → done result ≡ false → IsAtEnd (R.remaining input.new) }
+    {
+        let front = keep_rest(src, self.at, self.have);
+        let got = read_more(input, src, front);
+        self.after_read(front, got)
+    }
+
+    // Writes what was put, no more than the room holds, and leaves nothing of it with the writer.
+    pub fn flush<W: Write>(self, output: &mut W, out: &[u8]) -> Standing
+        ensures flushes { Flushes self out.now result }
+        ensures written { done result ≡ false → Appends (W.contents output.old) (W.contents output.new) (take self.put out.now) }
+    {
+        let put = self.put.min(out.len());
+        self.after_write(write_out(output, &out[..put]))
+    }
+
+    // The work that reads and writes did: all of it where none failed.
+    pub fn work(self) -> Result<(), Fault>
+        ensures { result ≡ work self }
+    {
+        self.outcome.unwrap_or(Ok(()))
+    }
 }
 
-// Reads once, after the first bytes of the buffer: nothing can be brought where they fill it.
-fn read_more<R: Read>(input: &mut R, src: &mut [u8], have: usize) -> Got
+// Reads once, after the first bytes of the buffer: as many bytes are there then, or the input has ended. Nothing can be brought where they
+// fill it.
+fn read_more<R: Read>(input: &mut R, src: &mut [u8], have: usize) -> io::Result<Option<usize>>
     ensures inside { Inside have (length src.old) result }
     ensures src_unchanged { take have src.new ≡ take have src.old }
+    ensures brings { Brings (R.remaining input.old) (R.remaining input.new) have src.new result }
 {
-    if have < src.len() {
-        return match input.read(&mut src[have..]) {
-            Ok(n) => answered(n as isize, have, have + n),
-            // as read(2) answers a failure
-            Err(_) => answered(-1, have, have),
-        };
+    if src.len() <= have {
+        return Err(ErrorKind::StorageFull.into());
     }
-    Got::Failed
+    match input.read(&mut src[have..])? {
+        0 => Ok(None),
+        n => Ok(Some(have + n)),
+    }
+}
+
+// Writes the bytes, and leaves nothing of them with the writer.
+fn write_out<W: Write>(output: &mut W, bytes: &[u8]) -> io::Result<()>
+    ensures { OnOk result (Appends (W.contents output.old) (W.contents output.new) bytes.now) }
+{
+    output.write_all(bytes)?;
+    output.flush()
 }
 
 // Moves the bytes between two places to the front, and returns how many they are: none where they are not all there.
@@ -70,109 +149,23 @@ fn keep_rest(src: &mut [u8], from: usize, to: usize) -> usize
     ensures src_after { src.new ≡ kept src.old from to ++ drop result src.old }
     ensures upper_bound { result ≤ length src.old }
 {
-    if to < from {
+    if to < from || src.len() < to {
         return 0;
     }
-    if src.len() < to {
-        return 0;
-    }
-    let n = to - from;
-    let mut i = 0;
-    while i < n {
-        src[i] = src[from + i];
-        i = i + 1;
-    }
-    n
-}
-
-// Nothing is read and nothing is put.
-pub fn first() -> Standing
-    ensures { result ≡ first }
-{
-    Standing {
-        at: 0,
-        have: 0,
-        put: 0,
-        ended: false,
-        done: false,
-        work: Work::Whole,
-    }
-}
-
-// After a read behind the first `front` bytes of the buffer, which are those not yet taken.
-pub fn after_read(s: Standing, front: usize, got: Got) -> Standing
-    ensures { result ≡ after_read s front got }
-{
-    match got {
-        Got::More(have) => Standing { at: 0, have, ..s },
-        Got::End => Standing {
-            at: 0,
-            have: front,
-            ended: true,
-            ..s
-        },
-        Got::Failed => Standing {
-            at: 0,
-            have: front,
-            ended: true,
-            done: true,
-            work: Work::Unread,
-            ..s
-        },
-    }
-}
-
-// After a write of all that was put, or of a part of it.
-pub fn after_write(s: Standing, written: bool) -> Standing
-    ensures { result ≡ after_write s written }
-{
-    let flushed = Standing { put: 0, ..s };
-    if written {
-        return flushed;
-    }
-    Standing {
-        done: true,
-        work: Work::Unwritten,
-        ..flushed
-    }
-}
-
-// Moves what is left of the input to the front of the buffer, and reads more.
-pub fn feed<R: Read>(s: Standing, input: &mut R, src: &mut [u8]) -> Standing
-    ensures { Feeds s src.old result src.new }
-{
-    let front = keep_rest(src, s.at, s.have);
-    let got = read_more(input, src, front);
-    after_read(s, front, got)
-}
-
-// The lesser of the two.
-fn least(a: usize, b: usize) -> usize
-    ensures { result ≡ min a b }
-{
-    if a < b { a } else { b }
-}
-
-// Writes what was put, no more than the room holds, and leaves nothing of it with the writer.
-pub fn flush<W: Write>(s: Standing, output: &mut W, out: &[u8]) -> Standing
-    ensures { Flushes s out.now result }
-{
-    let put = least(s.put, out.len());
-    let written = output.write_all(&out[..put]).is_ok() && output.flush().is_ok();
-    after_write(s, written)
+    src.copy_within(from..to, 0);
+    to - from
 }
 
 // Reads until `least` bytes are there, the input ends or a read fails, as one into a full buffer does.
 pub fn fill<R: Read>(input: &mut R, src: &mut [u8], least: usize) -> Standing
-    ensures { Fills least (length src.old) result }
+    ensures fills { Fills least (length src.old) result }
+    ensures consumed { Consumes (R.remaining input.old) (R.remaining input.new) (take result.have src.new) }
+    ensures end { result.ended ≡ true → done result ≡ false → IsAtEnd (R.remaining input.new) }
 {
-    let mut s = first();
-    while s.have < least {
+    let mut s = Standing::first();
+    while s.have < least && !s.ended {
         let got = read_more(input, src, s.have);
-        s = after_read(s, s.have, got);
-        if s.ended {
-            return s;
-        }
+        s = s.after_read(s.have, got);
     }
     s
 }

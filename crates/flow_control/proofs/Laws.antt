@@ -1,21 +1,13 @@
 -- Laws of the windows: what a change leaves, and what the window step keeps. Assumes nothing.
-use mathlib.Core.Path.{◌≡◌, refl, sym, ◌∙◌}
-use mathlib.Core.Bool.{Bool, true, false, cond}
-use Prim.Native.Nat.{ℕ, ◌+◌, ◌-◌, ◌*◌, ◌≤◌}
-use native.Mathlib.Omega.{arith}
-use native.Mathlib.Nat.{le_refl}
+use Rattle.std.proofs.Common.{◌≡◌, refl, Bool, true, false, cond, ℕ, ◌+◌, ◌-◌, ◌*◌, ◌≤◌, arith, le_refl, Option, Some, None}
 use Rattle.frame.specs.Header.{initial_window}
 use Rattle.flow_control.specs.Windows.{top, pace_of, budget, new_maximum, granted, unmoved}
-use Rattle.flow_control.specs.Windows.{paced, is_due, next_window_update, with_receive, settled}
+use Rattle.flow_control.specs.Windows.{paced, is_due, next_window_update, with_receive, Moved}
+use Rattle.flow_control.specs.declared.Due.{Due}
 use Rattle.flow_control.specs.declared.Conditions.{Conditions}
 use Rattle.flow_control.specs.declared.FlowController.{FlowController}
 use Rattle.flow_control.specs.declared.Pace.{Pace}
 use Rattle.flow_control.specs.declared.Pace.TheVariants.{Unmeasured, Late, Early}
-use Rattle.flow_control.specs.declared.Update.{Update}
-use Rattle.flow_control.specs.declared.Update.TheVariants as update
-use Rattle.flow_control.specs.declared.Moved.{Moved}
-use Rattle.flow_control.specs.declared.Verdict.TheVariants.{Done, InvalidWindowUpdate}
-use Rattle.flow_control.specs.declared.Settled.{Settled}
 
 -- the remote may send no more than the maximum leaves beside what is unread
 abbrev pub Room : FlowController → ℕ → Type 0
@@ -26,9 +18,9 @@ abbrev pub Fits : FlowController → Type 0
 Fits f = (f.receive_window ≤ top) × (f.max_receive_window ≤ top) × (f.send_window ≤ top)
 
 -- the bytes that an update grants
-abbrev pub credit_of : Update → ℕ
-credit_of update.NotDue = 0
-credit_of (update.Due why c) = c.0
+abbrev pub credit_of : Option Due → ℕ
+credit_of None = 0
+credit_of (Some d) = d.credit.0
 
 -- ---- the window step
 
@@ -88,7 +80,7 @@ module _ (f : FlowController) (c : Conditions) where
   credits true Late = refl
   credits true Early = refl
 
-  silent : (b : Bool) (p : Pace) → (outcome b p).granted.update ≡ update.NotDue → outcome b p ≡ outcome false p
+  silent : (b : Bool) (p : Pace) → (outcome b p).granted.update ≡ None → outcome b p ≡ outcome false p
   silent false p e = refl
   silent true Unmeasured e = cc
   silent true Late e = cc
@@ -111,7 +103,7 @@ module _ (f : FlowController) (c : Conditions) where
   credit-fits h = omega (arith, credited, (steps.fits h).0)
 
   -- where no update is sent nothing changes
-  pub unchanged : taken.granted.update ≡ update.NotDue → taken ≡ unmoved f c.growth
+  pub unchanged : taken.granted.update ≡ None → taken ≡ unmoved f c.growth
   unchanged = silent (is_due f c.unread) pace
 
   -- the growth figure stays within the limit less 262,144 for each stream
@@ -120,17 +112,6 @@ module _ (f : FlowController) (c : Conditions) where
   within-limit h r = omega (arith, steps.within, steps.figure, steps.rises r)
 
 -- ---- consume and increase
-
-abbrev checked : Bool → FlowController → FlowController → Settled
-checked b f g = cond b (settled f Done) (settled g InvalidWindowUpdate)
-
-pub done : (b : Bool) (f g : FlowController) (s : Settled) → s ≡ checked b f g → s.verdict ≡ Done → (b ≡ true) × (s.flow ≡ f)
-done true f g s e v = (refl, λ i. (e i).flow)
-done false f g s e v = let z : InvalidWindowUpdate ≡ Done = sym (λ i. (e i).verdict) ∙ v in (cc, cc)
-
-pub refused : (b : Bool) (f g : FlowController) (s : Settled) → s ≡ checked b f g → s.verdict ≡ InvalidWindowUpdate → b ≡ false
-refused true f g s e v = let z : Done ≡ InvalidWindowUpdate = sym (λ i. (e i).verdict) ∙ v in cc
-refused false f g s e v = refl
 
 -- a body that is queued takes from the window what it adds to the unread bytes
 pub consumed_room :

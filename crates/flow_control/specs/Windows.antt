@@ -1,21 +1,16 @@
 -- The windows of one stream, and how its receive maximum grows. Sentences are document 01's; ℕ's minus stops at 0.
-use Rattle.std.specs.Prelude.{Bool, cond, ℕ, ◌+◌, ◌-◌, ◌*◌, ◌/◌, min, ltb, leb, eqb}
+use Rattle.std.specs.Prelude.{Bool, cond, ℕ, ◌+◌, ◌-◌, ◌*◌, ◌/◌, min, ltb, leb, eqb, ⊤, Option, Some, None, Result, Ok, Err}
 use Rattle.frame.specs.Header.{initial_window}
 use Rattle.frame.specs.declared.header.Credit.{Credit}
 use Rattle.rtt.specs.Pings.{elapsed}
-use Rattle.rtt.specs.declared.RoundTrip.{RoundTrip}
-use Rattle.rtt.specs.declared.RoundTrip.TheVariants.{Unknown, Known}
 use Rattle.flow_control.specs.declared.FlowController.{FlowController}
 use Rattle.flow_control.specs.declared.Pace.{Pace}
 use Rattle.flow_control.specs.declared.Pace.TheVariants.{Unmeasured, Late, Early}
-use Rattle.flow_control.specs.declared.Update.TheVariants as update
 use Rattle.flow_control.specs.declared.Reason.{Reason}
 use Rattle.flow_control.specs.declared.Reason.TheVariants as reason
 use Rattle.flow_control.specs.declared.Conditions.{Conditions}
-use Rattle.flow_control.specs.declared.Moved.{Moved}
-use Rattle.flow_control.specs.declared.Verdict.{Verdict}
-use Rattle.flow_control.specs.declared.Verdict.TheVariants.{Done, InvalidWindowUpdate}
-use Rattle.flow_control.specs.declared.Settled.{Settled}
+use Rattle.flow_control.specs.declared.Granted.{Granted}
+use Rattle.flow_control.specs.declared.InvalidWindowUpdate.{InvalidWindowUpdate}
 
 -- the largest number of 32 bits
 abbrev pub top : ℕ
@@ -41,9 +36,9 @@ abbrev pub due : ℕ → FlowController → ℕ → ℕ
 due maximum f unread = maximum - f.receive_window - unread
 
 -- "If a round trip is known and elapsed < 2 x round trip": early. No round trip known, and late, are told apart.
-abbrev pub pace_of : RoundTrip → ℕ → ℕ → Pace
-pace_of Unknown noted now = Unmeasured
-pace_of (Known t) noted now = cond (ltb (elapsed noted now) (2 * t)) Early Late
+abbrev pub pace_of : Option ℕ → ℕ → ℕ → Pace
+pace_of None noted now = Unmeasured
+pace_of (Some t) noted now = cond (ltb (elapsed noted now) (2 * t)) Early Late
 
 -- what is left of the limit beyond 262,144 for each of M streams: "limit - M x 262,144 - growth figure"
 abbrev pub budget : Conditions → ℕ
@@ -62,11 +57,16 @@ granted f maximum c = record {
   send_window = f.send_window;
 }
 
+-- the flow state after the window step, and what is told of it
+pub record Moved : Type 0 where
+  pub flow : FlowController
+  pub granted : Granted
+
 -- all that is due against `maximum` granted, with the growth figure after it, and why the maximum is that
 abbrev pub moved : FlowController → ℕ → Conditions → ℕ → Reason → Moved
 moved f maximum c growth why = record {
   flow = granted f maximum c;
-  granted = record { growth = growth; update = update.Due why (credit (due maximum f c.unread)) };
+  granted = record { growth = growth; update = Some (record { reason = why; credit = credit (due maximum f c.unread) }) };
 }
 
 -- grown by doubling, or held down by the budget or by 2^32-1, a rise of zero included
@@ -84,7 +84,7 @@ paced Early f c = grow f c (new_maximum f.max_receive_window (budget c))
 
 -- a step that grants nothing
 abbrev pub unmoved : FlowController → ℕ → Moved
-unmoved f growth = record { flow = f; granted = record { growth = growth; update = update.NotDue } }
+unmoved f growth = record { flow = f; granted = record { growth = growth; update = None } }
 
 -- "Below half the maximum (rounded down): none."
 abbrev pub is_due : FlowController → ℕ → Bool
@@ -119,24 +119,31 @@ with_receive f n = record {
   send_window = f.send_window;
 }
 
--- a window takes a change, or leaves all as it was
-abbrev pub settled : FlowController → Verdict → Settled
-settled f v = record { flow = f; verdict = v }
+-- the flow state after a change; as it was where a window cannot take it
+pub record Settled : Type 0 where
+  pub flow : FlowController
+  pub verdict : Result ⊤ InvalidWindowUpdate
+
+abbrev pub done : FlowController → Settled
+done f = record { flow = f; verdict = Ok tt }
+
+abbrev pub refused : FlowController → Settled
+refused f = record { flow = f; verdict = Err (record {}) }
 
 -- "the window falls by n", n being at most the window
 abbrev pub consume_send : FlowController → ℕ → Settled
-consume_send f n = cond (leb n f.send_window) (settled (with_send f (f.send_window - n)) Done) (settled f InvalidWindowUpdate)
+consume_send f n = cond (leb n f.send_window) (done (with_send f (f.send_window - n))) (refused f)
 
 -- "send window past 2^32-1, code 1; else credit added"
 abbrev pub increase_send : FlowController → Credit → Settled
 increase_send f c =
     cond (leb (f.send_window + c.0) top)
-    (settled (with_send f (f.send_window + c.0)) Done)
-    (settled f InvalidWindowUpdate)
+    (done (with_send f (f.send_window + c.0)))
+    (refused f)
 
 -- "body above the receive window, code 1. Else the window falls by the body"
 abbrev pub consume_receive : FlowController → ℕ → Settled
 consume_receive f n =
     cond (leb n f.receive_window)
-    (settled (with_receive f (f.receive_window - n)) Done)
-    (settled f InvalidWindowUpdate)
+    (done (with_receive f (f.receive_window - n)))
+    (refused f)

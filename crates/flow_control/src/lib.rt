@@ -1,16 +1,13 @@
 // The windows of one stream: what the remote may still send, what we may, and when the remote is granted more.
 #![tactic(auto)]
 
-pub mod lent;
-
-ghost use Rattle.std.specs.Prelude.{◌≡◌, ◌-◌, min};
+ghost use Rattle.std.specs.Prelude.{◌≡◌};
 ghost use Rattle.flow_control.specs.Windows.{fresh, due, pace_of, budget, new_maximum, moved, grown, grow, next_window_update};
 ghost use Rattle.flow_control.specs.Windows.{growth_returned, consume_send, increase_send, consume_receive};
 
 use frame::header::{Credit, DEFAULT_CREDIT};
-use rtt::RoundTrip;
 
-#[derive(Clone, Copy)]
+#[derive(Clone, Copy, Debug, PartialEq, Eq)]
 pub struct FlowController {
     pub last_window_update: u64,
     pub receive_window: u32,
@@ -19,7 +16,7 @@ pub struct FlowController {
 }
 
 // How soon after the last update this one comes, measured in round trips.
-#[derive(Clone, Copy)]
+#[derive(Clone, Copy, Debug, PartialEq, Eq)]
 pub enum Pace {
     Unmeasured,
     Late,
@@ -27,7 +24,7 @@ pub enum Pace {
 }
 
 // Why an update that is due leaves the maximum as it does.
-#[derive(Clone, Copy)]
+#[derive(Clone, Copy, Debug, PartialEq, Eq)]
 pub enum Reason {
     Unmeasured,
     Late,
@@ -35,105 +32,71 @@ pub enum Reason {
     HeldDown,
 }
 
-// What the window step did, and the credit that it grants.
-#[derive(Clone, Copy)]
-pub enum Update {
-    NotDue,
-    Due(Reason, Credit),
+// An update that is due: why the maximum is what it is, and the credit that the update grants.
+#[derive(Clone, Copy, Debug, PartialEq, Eq)]
+pub struct Due {
+    pub reason: Reason,
+    pub credit: Credit,
 }
 
 // What the window step depends on beside the flow state.
-#[derive(Clone, Copy)]
+#[derive(Clone, Copy, Debug, PartialEq, Eq)]
 pub struct Conditions {
     pub unread: u32,
     pub time: u64,
-    pub round_trip: RoundTrip,
+    pub round_trip: Option<u64>,
     pub limit: u64,
     pub max_num_streams: u32,
     pub growth: u64,
 }
 
 // What the window step grants, and the connection's growth figure after it.
-#[derive(Clone, Copy)]
+#[derive(Clone, Copy, Debug, PartialEq, Eq)]
 pub struct Granted {
     pub growth: u64,
-    pub update: Update,
+    pub update: Option<Due>,
 }
 
-// The flow state after the window step, and what is told of it.
-#[derive(Clone, Copy)]
-pub struct Moved {
-    pub flow: FlowController,
-    pub granted: Granted,
-}
-
-// Whether a window took a change.
-#[derive(Clone, Copy)]
-pub enum Verdict {
-    Done,
-    InvalidWindowUpdate,
-}
-
-// The flow state after a change; as it was where a window cannot take it.
-#[derive(Clone, Copy)]
-pub struct Settled {
-    pub flow: FlowController,
-    pub verdict: Verdict,
-}
+// A window cannot take a change.
+#[derive(Clone, Copy, Debug, PartialEq, Eq)]
+pub struct InvalidWindowUpdate;
 
 // Whether fewer than two round trips have passed since `noted`.
-fn pace_of(round_trip: RoundTrip, noted: u64, now: u64) -> Pace
+fn pace_of(round_trip: Option<u64>, noted: u64, now: u64) -> Pace
     ensures { result ≡ pace_of round_trip noted now }
 {
     match round_trip {
-        RoundTrip::Unknown => Pace::Unmeasured,
-        RoundTrip::Known(t) => {
-            let elapsed = rtt::elapsed(noted, now);
-            if elapsed / 2 < t {
-                Pace::Early
-            } else {
-                Pace::Late
-            }
-        }
+        None => Pace::Unmeasured,
+        Some(t) if rtt::elapsed(noted, now) / 2 < t => Pace::Early,
+        Some(_) => Pace::Late,
     }
-}
-
-fn least(a: u64, b: u64) -> u64
-    ensures { result ≡ min a b }
-{
-    if a < b { a } else { b }
-}
-
-fn saturating_sub(a: u64, b: u64) -> u64
-    ensures { result ≡ a - b }
-{
-    if a < b { 0 } else { a - b }
 }
 
 // What the connection's limit still allows beyond the windows that each stream is sure of.
 fn budget(conditions: Conditions) -> u64
     ensures { result ≡ budget conditions }
 {
-    let sure = (conditions.max_num_streams as u64) * (DEFAULT_CREDIT as u64);
-    let beyond = saturating_sub(conditions.limit, sure);
-    saturating_sub(beyond, conditions.growth)
+    let sure = u64::from(conditions.max_num_streams) * u64::from(DEFAULT_CREDIT);
+    conditions
+        .limit
+        .saturating_sub(sure)
+        .saturating_sub(conditions.growth)
 }
 
 // The maximum doubled, as far as 32 bits and the budget allow.
 fn new_maximum(maximum: u32, spare: u64) -> u32
     ensures { result ≡ new_maximum maximum spare }
 {
-    let old = maximum as u64;
-    let doubled = least(2 * old, u32::MAX as u64);
-    let rise = least(doubled - old, spare);
-    (old + rise) as u32
+    let old = u64::from(maximum);
+    let doubled = (2 * old).min(u64::from(u32::MAX));
+    (old + (doubled - old).min(spare)) as u32
 }
 
 // Whether the maximum was doubled.
 fn grown(old: u32, maximum: u32) -> Reason
     ensures { result ≡ grown old maximum }
 {
-    if (maximum as u64) == 2 * (old as u64) {
+    if u64::from(maximum) == 2 * u64::from(old) {
         Reason::Doubled
     } else {
         Reason::HeldDown
@@ -157,58 +120,70 @@ impl FlowController {
     fn due(self, maximum: u32, unread: u32) -> u32
         ensures { result ≡ due maximum self unread }
     {
-        let used = saturating_sub(maximum as u64, self.receive_window as u64);
-        saturating_sub(used, unread as u64) as u32
+        maximum
+            .saturating_sub(self.receive_window)
+            .saturating_sub(unread)
     }
 
-    // The step that grants all that is due against `maximum`.
-    fn moved(self, maximum: u32, conditions: Conditions, growth: u64, reason: Reason) -> Moved
-        ensures { result ≡ moved self maximum conditions growth reason }
+    // Grants all that is due against `maximum`.
+    fn grant(
+        &mut self,
+        maximum: u32,
+        conditions: Conditions,
+        growth: u64,
+        reason: Reason,
+    ) -> Granted
+        ensures { (self.new ≡ (moved self.old maximum conditions growth reason).flow)
+            × (result ≡ (moved self.old maximum conditions growth reason).granted) }
     {
         let due = self.due(maximum, conditions.unread);
-        let flow = FlowController {
+        *self = FlowController {
             last_window_update: conditions.time,
             receive_window: self.receive_window + due,
             max_receive_window: maximum,
-            ..self
+            ..*self
         };
-        let update = Update::Due(reason, Credit(due));
-        Moved {
-            flow,
-            granted: Granted { growth, update },
+        Granted {
+            growth,
+            update: Some(Due {
+                reason,
+                credit: Credit(due),
+            }),
         }
     }
 
-    // The step that raises the maximum, and the growth figure by as much.
-    fn grow(self, conditions: Conditions) -> Moved
-        ensures { result ≡ grow self conditions (new_maximum self.max_receive_window (budget conditions)) }
+    // Raises the maximum, and the growth figure by as much.
+    fn grow(&mut self, conditions: Conditions) -> Granted
+        ensures { (self.new ≡ (grow self.old conditions (new_maximum self.old.max_receive_window (budget conditions))).flow)
+            × (result ≡ (grow self.old conditions (new_maximum self.old.max_receive_window (budget conditions))).granted) }
     {
         let old = self.max_receive_window;
-        let spare = budget(conditions);
-        let maximum = new_maximum(old, spare);
-        let growth = conditions.growth + ((maximum - old) as u64);
-        let reason = grown(old, maximum);
-        self.moved(maximum, conditions, growth, reason)
+        let maximum = new_maximum(old, budget(conditions));
+        let growth = conditions.growth + u64::from(maximum - old);
+        self.grant(maximum, conditions, growth, grown(old, maximum))
     }
 
-    // The credit due to the remote, and the windows and growth figure after it. Less than half of the maximum is not worth a frame.
-    fn window_updated(self, conditions: Conditions) -> Moved
-        ensures { result ≡ next_window_update self conditions }
+    // The credit due to the remote is taken into the receive window, and what is granted is returned. Less than half of the maximum is not
+    // worth a frame.
+    pub fn next_window_update(&mut self, conditions: Conditions) -> Granted
+        ensures { (self.new ≡ (next_window_update self.old conditions).flow)
+            × (result ≡ (next_window_update self.old conditions).granted) }
     {
         let maximum = self.max_receive_window;
         let growth = conditions.growth;
         if self.due(maximum, conditions.unread) < maximum / 2 {
-            let update = Update::NotDue;
-            return Moved {
-                flow: self,
-                granted: Granted { growth, update },
+            return Granted {
+                growth,
+                update: None,
             };
         }
-        let round_trip = conditions.round_trip;
-        let pace = pace_of(round_trip, self.last_window_update, conditions.time);
-        match pace {
-            Pace::Unmeasured => self.moved(maximum, conditions, growth, Reason::Unmeasured),
-            Pace::Late => self.moved(maximum, conditions, growth, Reason::Late),
+        match pace_of(
+            conditions.round_trip,
+            self.last_window_update,
+            conditions.time,
+        ) {
+            Pace::Unmeasured => self.grant(maximum, conditions, growth, Reason::Unmeasured),
+            Pace::Late => self.grant(maximum, conditions, growth, Reason::Late),
             Pace::Early => self.grow(conditions),
         }
     }
@@ -217,64 +192,39 @@ impl FlowController {
     pub fn growth_returned(self, growth: u64) -> u64
         ensures { result ≡ growth_returned growth self }
     {
-        let grown = saturating_sub(self.max_receive_window as u64, DEFAULT_CREDIT as u64);
-        saturating_sub(growth, grown)
+        growth.saturating_sub(u64::from(self.max_receive_window.saturating_sub(DEFAULT_CREDIT)))
     }
 
-    fn send_consumed(self, i: u32) -> Settled
-        ensures { result ≡ consume_send self i }
+    // The send window falls by i bytes.
+    pub fn consume_send_window(&mut self, i: u32) -> Result<(), InvalidWindowUpdate>
+        ensures { (self.new ≡ (consume_send self.old i).flow)
+            × (result ≡ (consume_send self.old i).verdict) }
     {
-        if self.send_window < i {
-            return Settled {
-                flow: self,
-                verdict: Verdict::InvalidWindowUpdate,
-            };
-        }
-        let flow = FlowController {
-            send_window: self.send_window - i,
-            ..self
-        };
-        Settled {
-            flow,
-            verdict: Verdict::Done,
-        }
+        self.send_window = self.send_window.checked_sub(i).ok_or(InvalidWindowUpdate)?;
+        Ok(())
     }
 
-    fn send_increased(self, i: Credit) -> Settled
-        ensures { result ≡ increase_send self i }
+    // The send window rises by a credit.
+    pub fn increase_send_window_by(&mut self, i: Credit) -> Result<(), InvalidWindowUpdate>
+        ensures { (self.new ≡ (increase_send self.old i).flow)
+            × (result ≡ (increase_send self.old i).verdict) }
     {
-        if u32::MAX - self.send_window < i.0 {
-            return Settled {
-                flow: self,
-                verdict: Verdict::InvalidWindowUpdate,
-            };
-        }
-        let flow = FlowController {
-            send_window: self.send_window + i.0,
-            ..self
-        };
-        Settled {
-            flow,
-            verdict: Verdict::Done,
-        }
+        self.send_window = self
+            .send_window
+            .checked_add(i.0)
+            .ok_or(InvalidWindowUpdate)?;
+        Ok(())
     }
 
-    fn receive_consumed(self, i: u32) -> Settled
-        ensures { result ≡ consume_receive self i }
+    // The receive window falls by i bytes.
+    pub fn consume_receive_window(&mut self, i: u32) -> Result<(), InvalidWindowUpdate>
+        ensures { (self.new ≡ (consume_receive self.old i).flow)
+            × (result ≡ (consume_receive self.old i).verdict) }
     {
-        if self.receive_window < i {
-            return Settled {
-                flow: self,
-                verdict: Verdict::InvalidWindowUpdate,
-            };
-        }
-        let flow = FlowController {
-            receive_window: self.receive_window - i,
-            ..self
-        };
-        Settled {
-            flow,
-            verdict: Verdict::Done,
-        }
+        self.receive_window = self
+            .receive_window
+            .checked_sub(i)
+            .ok_or(InvalidWindowUpdate)?;
+        Ok(())
     }
 }

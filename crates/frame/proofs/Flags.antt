@@ -1,15 +1,11 @@
 -- The flag word, bit by bit: joining sets a flag's own bit and no other, `contains` looks at that bit, and setters commute
 -- and are idempotent. Stated once over the bit and the flag. Assumes nothing.
-use mathlib.Core.Path.{◌≡◌, refl, sym, ap, ◌∙◌, subst}
-use mathlib.Core.Bool.{Bool, true, false, cond}
-use Prim.Native.Nat.{ℕ, zero, suc, ◌+◌, ◌-◌, ◌*◌, ◌/◌, ◌%◌, ◌^◌, ◌<◌, max}
-use native.Mathlib.Omega.{arith}
-use native.Mathlib.Nat.{zero-lt-suc, pow-suc, mod-lt, div-eq_of_lt, div-one, mul-mod_left, mul-div-mul_right}
+use Rattle.std.proofs.Common.{◌≡◌, refl, sym, ap, ◌∙◌, subst, Bool, true, false, cond, ℕ, zero, suc, ◌+◌, ◌-◌, ◌*◌, ◌/◌, ◌%◌, ◌^◌, ◌<◌, max, arith, zero-lt-suc, pow-suc, mod-lt, div-one, pow_pos, pow-add, eq-eqb, ne_eqb, eqb, bit_and, bit_or}
+use native.Mathlib.Nat.{div-eq_of_lt, mul-mod_left, mul-div-mul_right}
 use lib.Arith.{bin_ind}
-use lib.Pow.{pow_pos, pow-lt, pow-add}
-use borrow.Author.Tests.{eq-eqb, ne_eqb}
-use lib.Dec.{eqb, eqb-zero-suc, eqb-suc-zero, eqb-suc-suc}
-use lib.Bits.{bit_and, bit_or, or_step, or_shr, or_comm, or_self, or_zero_r, or_lt, and_high}
+use lib.Pow.{pow-lt}
+use lib.Dec.{eqb-zero-suc, eqb-suc-zero, eqb-suc-suc}
+use lib.Bits.{or_step, or_shr, or_comm, or_self, or_zero_r, or_lt, and_high}
 use Rattle.frame.specs.Header.{contains, flagged, opening, closing, Flag, SYN, ACK, FIN, RST, position, bit, setter, opens, closes, has}
 use Rattle.frame.specs.Wire.{InRange}
 use Rattle.frame.specs.declared.header.Flags.{Flags}

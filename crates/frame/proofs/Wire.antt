@@ -1,70 +1,62 @@
 -- The codec's laws, over the definitions alone: `decode` and `encode` are equal to them by contract.
 -- Reading is exactly the rules of `Reading`; reading what was written gives the header back; writing what was read gives
 -- the bytes back; and the bytes that are read as a header are exactly those that are written for one. Assumes nothing.
-use mathlib.Core.Path.{◌≡◌, refl, sym, ap, ap₂, ◌∙◌, subst}
-use mathlib.Core.Bool.{Bool, true, false, cond}
-use mathlib.Core.List.{List, [], ◌∷◌, ◌++◌}
-use Prim.Native.Nat.{ℕ, zero, suc, ◌+◌, ◌*◌, ◌/◌, ◌%◌, ◌<◌, ◌≤◌}
-use native.Mathlib.Omega.{arith}
-use borrow.Author.Tests.{eq-eqb, ne_eqb, eqb-true, eqb-false}
-use lib.Dec.{eqb}
-use lib.ListN.{length, get_or, drop, drop_of_length-le}
-use lib.Seq.{drop-cons}
+use borrow.Author.Tests.{eqb-false}
 use Rattle.frame.specs.Wire.{tag_number, bytes16, bytes32, wire, type_of, number16, number32, fields, typed_as, decoded, encoded, encode_reply, InRange, Bytes, Reading, header, version, type, size}
+use Rattle.std.proofs.Common.{Result, Ok, Err, ◌≡◌, refl, sym, ap, ap₂, ◌∙◌, subst, Bool, true, false, cond, List, [], ◌∷◌, ◌++◌, ℕ, zero, suc, ◌+◌, ◌*◌, ◌/◌, ◌%◌, ◌<◌, ◌≤◌, arith, eq-eqb, ne_eqb, eqb-true, eqb, length, get_or, drop, drop_of_length-le, drop-cons}
+use Rattle.std.proofs.lemmas.Nat.{from_be_bytes-to_be_bytes_2, from_be_bytes-to_be_bytes_4}
 use Rattle.frame.specs.declared.header.Header.{Header}
 use Rattle.frame.specs.declared.header.Tag.{Tag}
 use Rattle.frame.specs.declared.header.Tag.TheVariants.{Data, WindowUpdate, Ping, GoAway}
-use Rattle.frame.specs.declared.header.Typed.{Typed}
-use Rattle.frame.specs.declared.header.Typed.TheVariants as typed
-use Rattle.frame.specs.declared.header.Decoded.{Decoded}
-use Rattle.frame.specs.declared.header.Decoded.TheVariants as found
-use Rattle.frame.specs.declared.header.Encoded.TheVariants as wrote
+use Rattle.frame.specs.declared.header.UnknownType.{UnknownType}
+use Rattle.frame.specs.declared.header.HeaderDecodeError.{HeaderDecodeError}
+use Rattle.frame.specs.declared.header.HeaderDecodeError.TheVariants as found
 
 -- ---- types
 
-pub type-of-number : (t : Tag) → type_of (tag_number t) ≡ typed.Tag t
+pub type-of-number : (t : Tag) → type_of (tag_number t) ≡ Ok t
 type-of-number Data = refl
 type-of-number WindowUpdate = refl
 type-of-number Ping = refl
 type-of-number GoAway = refl
 
 -- a number above 3 is no type
-pub type_unknown : (n : ℕ) → 3 < n → type_of n ≡ typed.Unknown
+pub type_unknown : (n : ℕ) → 3 < n → type_of n ≡ Err (record { 0 = n })
 type_unknown n h =
     simp (ne_eqb n 0 (λ e. omega arith), ne_eqb n 1 (λ e. omega arith), ne_eqb n 2 (λ e. omega arith), ne_eqb n 3 (λ e. omega arith))
 
-data Typing (n : ℕ) : Typed → Type 0 where
-  known : (t : Tag) → n ≡ tag_number t → Typing n (typed.Tag t)
-  unknown : 3 < n → Typing n typed.Unknown
+data Typing (n : ℕ) : Result Tag UnknownType → Type 0 where
+  known : (t : Tag) → n ≡ tag_number t → Typing n (Ok t)
+  unknown : 3 < n → Typing n (Err (record { 0 = n }))
 
 typing : (n : ℕ) → Typing n (type_of n)
 typing n = at0 (eqb n 0) refl
   where
-    at3 : (x : Bool) → eqb n 3 ≡ x → 2 < n → Typing n (cond x (typed.Tag GoAway) typed.Unknown)
+    at3 : (x : Bool) → eqb n 3 ≡ x → 2 < n → Typing n (cond x (Ok GoAway) (Err (record { 0 = n })))
     at3 true e h = known GoAway (eqb-true _ _ e)
     at3 false e h = unknown (let k = eqb-false n 3 e in omega (arith, k))
 
-    at2 : (x : Bool) → eqb n 2 ≡ x → 1 < n → Typing n (cond x (typed.Tag Ping) (cond (eqb n 3) (typed.Tag GoAway) typed.Unknown))
+    at2 : (x : Bool) → eqb n 2 ≡ x → 1 < n → Typing n (cond x (Ok Ping) (cond (eqb n 3) (Ok GoAway) (Err (record { 0 = n }))))
     at2 true e h = known Ping (eqb-true _ _ e)
     at2 false e h = at3 (eqb n 3) refl (let k = eqb-false n 2 e in omega (arith, k))
 
     at1 : (x : Bool) → eqb n 1 ≡ x → 0 < n
-        → Typing n (cond x (typed.Tag WindowUpdate) (cond (eqb n 2) (typed.Tag Ping) (cond (eqb n 3) (typed.Tag GoAway) typed.Unknown)))
+        → Typing n (cond x (Ok WindowUpdate) (cond (eqb n 2) (Ok Ping) (cond (eqb n 3) (Ok GoAway) (Err (record { 0 = n })))))
     at1 true e h = known WindowUpdate (eqb-true _ _ e)
     at1 false e h = at2 (eqb n 2) refl (let k = eqb-false n 1 e in omega (arith, k))
 
     at0 : (x : Bool) → eqb n 0 ≡ x
-        → Typing n (cond x (typed.Tag Data) (cond (eqb n 1) (typed.Tag WindowUpdate) (cond (eqb n 2) (typed.Tag Ping) (cond (eqb n 3) (typed.Tag GoAway) typed.Unknown))))
+        → Typing n (cond x (Ok Data) (cond (eqb n 1) (Ok WindowUpdate) (cond (eqb n 2) (Ok Ping) (cond (eqb n 3) (Ok GoAway) (Err (record { 0 = n }))))))
     at0 true e = known Data (eqb-true _ _ e)
     at0 false e = at1 (eqb n 1) refl (let k = eqb-false n 0 e in omega (arith, k))
 
--- a type's number, and it is at most 3
-pub known_number : (n : ℕ) (t : Tag) → type_of n ≡ typed.Tag t → n ≡ tag_number t
+-- a known number is its type's and at most 3, and any other is above 3
+pub known_number : (n : ℕ) (t : Tag) → type_of n ≡ Ok t → n ≡ tag_number t
 known_number n t e = of (typing n) e
   where
-    of : {k : Typed} → Typing n k → k ≡ typed.Tag t → n ≡ tag_number t
+    of : {k : Result Tag UnknownType} → Typing n k → k ≡ Ok t → n ≡ tag_number t
     of (known u h) e = let same : u ≡ t = cc in h ∙ ap tag_number same
-    of (unknown h) e = let z : ◌≡◌ {A = ℕ} 0 1 = cc in absurd (omega arith)
+    of (unknown h) e = cc
 
 pub number_small : (t : Tag) → tag_number t ≤ 3
 number_small Data = omega arith
@@ -72,26 +64,26 @@ number_small WindowUpdate = omega arith
 number_small Ping = omega arith
 number_small GoAway = omega arith
 
-pub unknown_number : (n : ℕ) → type_of n ≡ typed.Unknown → 3 < n
-unknown_number n e = of (typing n) e
+pub unknown_number : (n : ℕ) (u : UnknownType) → type_of n ≡ Err u → 3 < n
+unknown_number n u e = of (typing n) e
   where
-    of : {k : Typed} → Typing n k → k ≡ typed.Unknown → 3 < n
-    of (known u h) e = let z : ◌≡◌ {A = ℕ} 0 1 = cc in absurd (omega arith)
+    of : {k : Result Tag UnknownType} → Typing n k → k ≡ Err u → 3 < n
+    of (known t h) e = cc
     of (unknown h) e = h
 
 -- ---- reading is exactly the rules
 
-by_type : (b : List ℕ) {k : Typed} → length b ≡ 12 → get_or b 0 0 ≡ 0 → Typing (get_or b 1 0) k → Reading b (typed_as k b)
+by_type : (b : List ℕ) {k : Result Tag UnknownType} → length b ≡ 12 → get_or b 0 0 ≡ 0 → Typing (get_or b 1 0) k → Reading b (typed_as k b)
 by_type b n v (known t e) = header t n v e
 by_type b n v (unknown h) = type n v h
 
 by_version : (b : List ℕ) (x : Bool) → length b ≡ 12 → eqb (get_or b 0 0) 0 ≡ x
-    → Reading b (cond x (typed_as (type_of (get_or b 1 0)) b) (found.Version (get_or b 0 0)))
+    → Reading b (cond x (typed_as (type_of (get_or b 1 0)) b) (Err (found.Version (get_or b 0 0))))
 by_version b true n e = by_type b n (eqb-true _ _ e) (typing (get_or b 1 0))
 by_version b false n e = version n (eqb-false _ _ e)
 
 by_size : (b : List ℕ) (x : Bool) → eqb (length b) 12 ≡ x
-    → Reading b (cond x (cond (eqb (get_or b 0 0) 0) (typed_as (type_of (get_or b 1 0)) b) (found.Version (get_or b 0 0))) found.Size)
+    → Reading b (cond x (cond (eqb (get_or b 0 0) 0) (typed_as (type_of (get_or b 1 0)) b) (Err (found.Version (get_or b 0 0)))) (Err found.Size))
 by_size b true e = by_version b (eqb (get_or b 0 0) 0) (eqb-true _ _ e) refl
 by_size b false e = size (eqb-false _ _ e)
 
@@ -100,35 +92,30 @@ pub decoded-reads : (b : List ℕ) → Reading b (decoded b)
 decoded-reads b = by_size b (eqb (length b) 12) refl
 
 -- and whatever a rule gives is decoded
-pub reads-decoded : (b : List ℕ) {r : Decoded} → Reading b r → decoded b ≡ r
+pub reads-decoded : (b : List ℕ) {r : Result Header HeaderDecodeError} → Reading b r → decoded b ≡ r
 reads-decoded b (header t n v e) = rw (eq-eqb _ _ n, eq-eqb _ _ v, e, type-of-number t)
 reads-decoded b (version n v) = rw (eq-eqb _ _ n, ne_eqb _ _ v)
 reads-decoded b (type n v h) = rw (eq-eqb _ _ n, eq-eqb _ _ v, type_unknown _ h)
 reads-decoded b (size n) = rw (ne_eqb _ _ n)
 
+-- twelve bytes of version 0 and a known type
+pub header_read : (b : List ℕ) (t : Tag) → length b ≡ 12 → get_or b 0 0 ≡ 0 → type_of (get_or b 1 0) ≡ Ok t → decoded b ≡ Ok (fields t b)
+header_read b t n v k = rw (eq-eqb _ _ n, eq-eqb _ _ v, k)
+
 -- the number of `encode`'s answer
 pub encoded_reply : (b : List ℕ) → encode_reply (encoded b) ≡ cond (eqb (length b) 12) 0 14
 encoded_reply b = of (eqb (length b) 12)
   where
-    of : (x : Bool) → encode_reply (cond x wrote.Done wrote.Size) ≡ cond x 0 14
+    of : (x : Bool) → encode_reply (cond x (Ok tt) (Err (record {}))) ≡ cond x 0 14
     of true = refl
     of false = refl
 
 -- ---- reading what was written
 
-back16 : (x : ℕ) → x < 65536 → number16 (x / 256 % 256) (x % 256) ≡ x
-back16 x h = omega arith
-
-back32 : (x : ℕ) → x < 4294967296 → number32 (x / 16777216 % 256) (x / 65536 % 256) (x / 256 % 256) (x % 256) ≡ x
-back32 x h = joined (x / 16777216 % 256) (x / 65536 % 256) (x / 256 % 256) (x % 256) (x / 256) (x / 65536) x (omega arith) (omega arith) (omega arith)
-  where
-    joined : (a b c d p q x : ℕ) → p * 256 + d ≡ x → q * 256 + c ≡ p → a * 256 + b ≡ q → number32 a b c d ≡ x
-    joined a b c d p q x e₁ e₂ e₃ = omega arith
-
 -- decode after encode is the identity on headers
-pub decode_encode : (h : Header) → InRange h → decoded (wire h) ≡ found.Header h
+pub decode_encode : (h : Header) → InRange h → decoded (wire h) ≡ Ok h
 decode_encode h r =
-    rw (type-of-number h.tag, back16 _ r.flags, back32 _ r.stream_id, back32 _ r.length)
+    rw (type-of-number h.tag, from_be_bytes-to_be_bytes_2 _ r.flags, from_be_bytes-to_be_bytes_4 _ r.stream_id, from_be_bytes-to_be_bytes_4 _ r.length)
 
 -- ---- writing what was read
 
@@ -167,19 +154,19 @@ rewritten b t r n v e =
     joined p q r = cc
 
 -- encode after decode is the identity on the bytes that are accepted
-pub encode_decode : (b : List ℕ) (h : Header) → Bytes b → decoded b ≡ found.Header h → wire h ≡ b
+pub encode_decode : (b : List ℕ) (h : Header) → Bytes b → decoded b ≡ Ok h → wire h ≡ b
 encode_decode b h r e = of (decoded-reads b) e
   where
-    of : {d : Decoded} → Reading b d → d ≡ found.Header h → wire h ≡ b
+    of : {d : Result Header HeaderDecodeError} → Reading b d → d ≡ Ok h → wire h ≡ b
     of (header t n v k) e = let same : fields t b ≡ h = cc in ap wire (sym same) ∙ rewritten b t r n v k
-    of (version n v) e = let z : ◌≡◌ {A = ℕ} 0 1 = cc in absurd (omega arith)
-    of (type n v k) e = let z : ◌≡◌ {A = ℕ} 0 1 = cc in absurd (omega arith)
-    of (size n) e = let z : ◌≡◌ {A = ℕ} 0 1 = cc in absurd (omega arith)
+    of (version n v) e = cc
+    of (type n v k) e = cc
+    of (size n) e = cc
 
 -- ---- the bytes that are read as a header are those that are written for one
 
 -- what bytes are read as is in range
-pub decoded_in_range : (b : List ℕ) (h : Header) → Bytes b → decoded b ≡ found.Header h → InRange h
+pub decoded_in_range : (b : List ℕ) (h : Header) → Bytes b → decoded b ≡ Ok h → InRange h
 decoded_in_range b h r e = of (decoded-reads b) e
   where
     read : (t : Tag) → InRange (fields t b)
@@ -189,25 +176,25 @@ decoded_in_range b h r e = of (decoded-reads b) e
       length = omega (arith, r 8, r 9, r 10, r 11);
     }
 
-    of : {d : Decoded} → Reading b d → d ≡ found.Header h → InRange h
+    of : {d : Result Header HeaderDecodeError} → Reading b d → d ≡ Ok h → InRange h
     of (header t n v k) e = let same : fields t b ≡ h = cc in subst InRange same (read t)
-    of (version n v) e = let z : ◌≡◌ {A = ℕ} 0 1 = cc in absurd (omega arith)
-    of (type n v k) e = let z : ◌≡◌ {A = ℕ} 0 1 = cc in absurd (omega arith)
-    of (size n) e = let z : ◌≡◌ {A = ℕ} 0 1 = cc in absurd (omega arith)
+    of (version n v) e = cc
+    of (type n v k) e = cc
+    of (size n) e = cc
 
 -- twelve of them, whatever the header
 pub length-wire : (h : Header) → length (wire h) ≡ 12
 length-wire h = refl
 
 -- `decode` accepts exactly what the specification writes
-pub accepts : (b : List ℕ) (h : Header) → Bytes b → decoded b ≡ found.Header h → (b ≡ wire h) × InRange h
+pub accepts : (b : List ℕ) (h : Header) → Bytes b → decoded b ≡ Ok h → (b ≡ wire h) × InRange h
 accepts b h r e = (sym (encode_decode b h r e), decoded_in_range b h r e)
 
-pub accepted : (b : List ℕ) (h : Header) → b ≡ wire h → InRange h → decoded b ≡ found.Header h
+pub accepted : (b : List ℕ) (h : Header) → b ≡ wire h → InRange h → decoded b ≡ Ok h
 accepted b h e r = ap decoded e ∙ decode_encode h r
 
 -- two headers in range that are written alike are one
 pub wire_injective : (g h : Header) → InRange g → InRange h → wire g ≡ wire h → g ≡ h
 wire_injective g h rg rh e =
-    let same : found.Header g ≡ found.Header h = sym (decode_encode g rg) ∙ ap decoded e ∙ decode_encode h rh in
+    let same : ◌≡◌ {A = Result Header HeaderDecodeError} (Ok g) (Ok h) = sym (decode_encode g rg) ∙ ap decoded e ∙ decode_encode h rh in
     cc

@@ -1,15 +1,13 @@
 -- The twelve bytes that stand for a header, as the Yamux specification lays them out: version, type, flags, stream id,
 -- length, each field's most significant byte first.
-use Rattle.std.specs.Prelude.{cond, ◌≡◌, List, [], ◌∷◌, ◌++◌, ℕ, ◌+◌, ◌*◌, ◌/◌, ◌%◌, ◌<◌, length, get_or, eqb, leb}
+use Rattle.std.specs.Prelude.{cond, ◌≡◌, List, [], ◌∷◌, ◌++◌, ℕ, ◌+◌, ◌*◌, ◌/◌, ◌%◌, ◌<◌, length, get_or, eqb, leb, Result, Ok, Err}
 use Rattle.frame.specs.declared.header.Header.{Header}
 use Rattle.frame.specs.declared.header.Tag.{Tag}
 use Rattle.frame.specs.declared.header.Tag.TheVariants.{Data, WindowUpdate, Ping, GoAway}
-use Rattle.frame.specs.declared.header.Typed.{Typed}
-use Rattle.frame.specs.declared.header.Typed.TheVariants as typed
-use Rattle.frame.specs.declared.header.Decoded.{Decoded}
-use Rattle.frame.specs.declared.header.Decoded.TheVariants as found
-use Rattle.frame.specs.declared.header.Encoded.{Encoded}
-use Rattle.frame.specs.declared.header.Encoded.TheVariants as wrote
+use Rattle.frame.specs.declared.header.UnknownType.{UnknownType}
+use Rattle.frame.specs.declared.header.HeaderDecodeError.{HeaderDecodeError}
+use Rattle.frame.specs.declared.header.HeaderDecodeError.TheVariants as found
+use Rattle.frame.specs.declared.header.WrongSize.{WrongSize}
 
 -- ---- writing
 
@@ -37,12 +35,12 @@ wire h = layout (tag_number h.tag) h.flags.0 h.stream_id.0 h.length.0
 -- ---- reading
 
 -- The type of a number. Above 3 there is none.
-abbrev pub type_of : ℕ → Typed
+abbrev pub type_of : ℕ → Result Tag UnknownType
 type_of n =
-    cond (eqb n 0) (typed.Tag Data)
-    (cond (eqb n 1) (typed.Tag WindowUpdate)
-    (cond (eqb n 2) (typed.Tag Ping)
-    (cond (eqb n 3) (typed.Tag GoAway) typed.Unknown)))
+    cond (eqb n 0) (Ok Data)
+    (cond (eqb n 1) (Ok WindowUpdate)
+    (cond (eqb n 2) (Ok Ping)
+    (cond (eqb n 3) (Ok GoAway) (Err (record { 0 = n })))))
 
 -- The number whose big-endian bytes these are.
 abbrev pub number16 : ℕ → ℕ → ℕ
@@ -64,33 +62,33 @@ fields t b =
     record { tag = t; flags = record { 0 = field16 b 2 }; stream_id = record { 0 = field32 b 4 }; length = record { 0 = field32 b 8 } }
 
 -- The type at byte 1, and an unknown one handed back.
-abbrev pub typed_as : Typed → List ℕ → Decoded
-typed_as (typed.Tag t) b = found.Header (fields t b)
-typed_as typed.Unknown b = found.Type (get_or b 1 0)
+abbrev pub typed_as : Result Tag UnknownType → List ℕ → Result Header HeaderDecodeError
+typed_as (Ok t) b = Ok (fields t b)
+typed_as (Err e) b = Err (found.Type e.0)
 
 -- A header is twelve bytes of version 0 and of a known type.
-abbrev pub decoded : List ℕ → Decoded
+abbrev pub decoded : List ℕ → Result Header HeaderDecodeError
 decoded b =
     cond (eqb (length b) 12)
-    (cond (eqb (get_or b 0 0) 0) (typed_as (type_of (get_or b 1 0)) b) (found.Version (get_or b 0 0)))
-    found.Size
+    (cond (eqb (get_or b 0 0) 0) (typed_as (type_of (get_or b 1 0)) b) (Err (found.Version (get_or b 0 0))))
+    (Err found.Size)
 
 -- ---- document 01's numbers
 
 -- 0 done, 11 unknown version, 12 unknown type, 14 a header of the wrong size.
-abbrev pub decode_reply : Decoded → ℕ
-decode_reply (found.Header h) = 0
-decode_reply (found.Version v) = 11
-decode_reply (found.Type t) = 12
-decode_reply found.Size = 14
+abbrev pub decode_reply : Result Header HeaderDecodeError → ℕ
+decode_reply (Ok h) = 0
+decode_reply (Err (found.Version v)) = 11
+decode_reply (Err (found.Type t)) = 12
+decode_reply (Err found.Size) = 14
 
-abbrev pub encode_reply : Encoded → ℕ
-encode_reply wrote.Done = 0
-encode_reply wrote.Size = 14
+abbrev pub encode_reply : Result (Unit {0}) WrongSize → ℕ
+encode_reply (Ok u) = 0
+encode_reply (Err e) = 14
 
 -- How a header is written into a buffer: only one of twelve bytes takes it.
-abbrev pub encoded : List ℕ → Encoded
-encoded b = cond (eqb (length b) 12) wrote.Done wrote.Size
+abbrev pub encoded : List ℕ → Result (Unit {0}) WrongSize
+encoded b = cond (eqb (length b) 12) (Ok tt) (Err (record {}))
 
 -- The buffer after that: the header's bytes, or as it was.
 abbrev pub written : Header → List ℕ → List ℕ
@@ -107,11 +105,9 @@ abbrev pub numbers_written : ℕ → ℕ → ℕ → ℕ → List ℕ → List �
 numbers_written kind flags id n b = cond (eqb (length b) 12) (cond (leb kind 3) (layout kind flags id n) b) b
 
 -- A number that decode hands out: the header's, or as it was on a refusal.
-abbrev pub handed : Decoded → (Header → ℕ) → ℕ → ℕ
-handed (found.Header h) field was = field h
-handed (found.Version v) field was = was
-handed (found.Type t) field was = was
-handed found.Size field was = was
+abbrev pub handed : Result Header HeaderDecodeError → (Header → ℕ) → ℕ → ℕ
+handed (Ok h) field was = field h
+handed (Err e) field was = was
 
 abbrev pub kind_of : Header → ℕ
 kind_of h = tag_number h.tag
@@ -138,8 +134,8 @@ abbrev pub Bytes : List ℕ → Type 0
 Bytes b = (i : ℕ) → get_or b i 0 < 256
 
 -- Which bytes are which answer, rule by rule: the header, or the refusal with its cause.
-pub data Reading (b : List ℕ) : Decoded → Type 0 where
-  header : (t : Tag) → length b ≡ 12 → get_or b 0 0 ≡ 0 → get_or b 1 0 ≡ tag_number t → Reading b (found.Header (fields t b))
-  version : length b ≡ 12 → (get_or b 0 0 ≡ 0 → ⊥) → Reading b (found.Version (get_or b 0 0))
-  type : length b ≡ 12 → get_or b 0 0 ≡ 0 → 3 < get_or b 1 0 → Reading b (found.Type (get_or b 1 0))
-  size : (length b ≡ 12 → ⊥) → Reading b found.Size
+pub data Reading (b : List ℕ) : Result Header HeaderDecodeError → Type 0 where
+  header : (t : Tag) → length b ≡ 12 → get_or b 0 0 ≡ 0 → get_or b 1 0 ≡ tag_number t → Reading b (Ok (fields t b))
+  version : length b ≡ 12 → (get_or b 0 0 ≡ 0 → ⊥) → Reading b (Err (found.Version (get_or b 0 0)))
+  type : length b ≡ 12 → get_or b 0 0 ≡ 0 → 3 < get_or b 1 0 → Reading b (Err (found.Type (get_or b 1 0)))
+  size : (length b ≡ 12 → ⊥) → Reading b (Err found.Size)

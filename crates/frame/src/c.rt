@@ -2,7 +2,7 @@
 ghost use Rattle.std.specs.Prelude.{◌≡◌};
 ghost use Rattle.frame.specs.Wire.{decoded, decode_reply, numbers_reply, numbers_written, handed, kind_of, flags_of, id_of, length_of};
 
-use crate::header::{Decoded, Flags, HEADER_SIZE, Header, Len, StreamId, Tag, Typed};
+use crate::header::{Flags, HEADER_SIZE, Header, HeaderDecodeError, Len, StreamId, Tag, WrongSize};
 
 const DONE: u32 = 0;
 
@@ -20,7 +20,7 @@ pub fn yamux_encode(tag: u8, flags: u16, stream_id: u32, length: u32, buf: &mut 
     if buf.len() != HEADER_SIZE {
         return WRONG_SIZE;
     }
-    let Typed::Tag(kind) = Tag::of(tag) else {
+    let Ok(kind) = Tag::try_from(tag) else {
         return UNKNOWN_TYPE;
     };
     let h = Header {
@@ -29,8 +29,10 @@ pub fn yamux_encode(tag: u8, flags: u16, stream_id: u32, length: u32, buf: &mut 
         stream_id: StreamId(stream_id),
         length: Len(length),
     };
-    crate::header::encode(h, buf);
-    DONE
+    match crate::header::encode(h, buf) {
+        Ok(()) => DONE,
+        Err(WrongSize) => WRONG_SIZE,
+    }
 }
 
 // Hands out the numbers of the header that buf is. They stay as they are on a refusal.
@@ -48,16 +50,15 @@ pub fn yamux_decode(
     ensures length_after { length.new ≡ handed (decoded buf.now) length_of length.old }
 {
     match crate::header::decode(buf) {
-        Decoded::Header(h) => {
-            let kind = h.tag;
-            *tag = kind.number();
+        Ok(h) => {
+            *tag = h.tag.into();
             *flags = h.flags.0;
             *stream_id = h.stream_id.0;
             *length = h.length.0;
             DONE
         }
-        Decoded::Version(_) => UNKNOWN_VERSION,
-        Decoded::Type(_) => UNKNOWN_TYPE,
-        Decoded::Size => WRONG_SIZE,
+        Err(HeaderDecodeError::Version(_)) => UNKNOWN_VERSION,
+        Err(HeaderDecodeError::Type(_)) => UNKNOWN_TYPE,
+        Err(HeaderDecodeError::Size) => WRONG_SIZE,
     }
 }

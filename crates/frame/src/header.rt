@@ -1,27 +1,31 @@
 // A frame's header: what its fields mean, the frames' headers, and the twelve bytes that stand for it.
 ghost use Rattle.std.specs.Prelude.{◌≡◌};
 ghost use Rattle.frame.specs.Header.{server, client, session, contains, joined, flagged, opening, closing, with_syn, with_ack, with_fin, with_rst};
-ghost use Rattle.frame.specs.Wire.{tag_number, type_of, number16, number32, wire, decoded, encoded, written};
+ghost use Rattle.frame.specs.Wire.{tag_number, type_of, wire, decoded, encoded, written};
 ghost use Rattle.frame.specs.Header.{data_header, window_update_header, ping_header, go_away_header, normal, protocol_error, internal_error};
+ghost use Rattle.frame.specs.declared.header.HeaderDecodeError.TheVariants as found;
+
+use std::error::Error;
+use std::fmt;
 
 // The number of a stream; 0 is the session's own.
-#[derive(Clone, Copy)]
+#[derive(Clone, Copy, Debug, PartialEq, Eq)]
 pub struct StreamId(pub u32);
 
 // The flag word, all 16 bits of it.
-#[derive(Clone, Copy)]
+#[derive(Clone, Copy, Debug, PartialEq, Eq)]
 pub struct Flags(pub u16);
 
 // The length field as it stands in a header. What it means depends on the type.
-#[derive(Clone, Copy)]
+#[derive(Clone, Copy, Debug, PartialEq, Eq)]
 pub struct Len(pub u32);
 
 // The length field of a window update: the bytes more that the frame's receiver may send.
-#[derive(Clone, Copy)]
+#[derive(Clone, Copy, Debug, PartialEq, Eq)]
 pub struct Credit(pub u32);
 
 // The message type.
-#[derive(Clone, Copy)]
+#[derive(Clone, Copy, Debug, PartialEq, Eq)]
 pub enum Tag {
     Data,
     WindowUpdate,
@@ -30,7 +34,7 @@ pub enum Tag {
 }
 
 // A header of version 0, the only one.
-#[derive(Clone, Copy)]
+#[derive(Clone, Copy, Debug, PartialEq, Eq)]
 pub struct Header {
     pub tag: Tag,
     pub flags: Flags,
@@ -38,28 +42,21 @@ pub struct Header {
     pub length: Len,
 }
 
-// What twelve bytes were found to be.
-#[derive(Clone, Copy)]
-pub enum Decoded {
-    Header(Header),
+// Why bytes are no header.
+#[derive(Clone, Copy, Debug, PartialEq, Eq)]
+pub enum HeaderDecodeError {
     Version(u8),
     Type(u8),
     Size,
 }
 
-// How a header was written.
-#[derive(Clone, Copy)]
-pub enum Encoded {
-    Done,
-    Size,
-}
+// A buffer that is not of a header's twelve bytes.
+#[derive(Clone, Copy, Debug, PartialEq, Eq)]
+pub struct WrongSize;
 
-// The type that a number stands for.
-#[derive(Clone, Copy)]
-pub enum Typed {
-    Tag(Tag),
-    Unknown,
-}
+// A number that stands for no type.
+#[derive(Clone, Copy, Debug, PartialEq, Eq)]
+pub struct UnknownType(pub u8);
 
 pub const CONNECTION_ID: StreamId = StreamId(0);
 
@@ -118,59 +115,54 @@ impl Flags {
 
 impl Header {
     // The header with the flag set beside those that it has.
-    fn with(mut self, flag: Flags) -> Self
+    fn with(self, flag: Flags) -> Self
         ensures { result ≡ flagged self flag }
     {
-        let flags = self.flags.with(flag);
-        self.flags = flags;
-        self
+        Header {
+            flags: self.flags.with(flag),
+            ..self
+        }
     }
 
     // The header with a flag that a GoAway lacks.
-    fn opening(mut self, flag: Flags) -> Self
+    fn opening(self, flag: Flags) -> Self
         ensures { result ≡ opening self.tag flag self }
     {
-        let tag = self.tag;
-        match tag {
-            Tag::Data => self.with(flag),
-            Tag::WindowUpdate => self.with(flag),
-            Tag::Ping => self.with(flag),
+        match self.tag {
+            Tag::Data | Tag::WindowUpdate | Tag::Ping => self.with(flag),
             Tag::GoAway => self,
         }
     }
 
     // The header with a flag that a Ping lacks too.
-    fn closing(mut self, flag: Flags) -> Self
+    fn closing(self, flag: Flags) -> Self
         ensures { result ≡ closing self.tag flag self }
     {
-        let tag = self.tag;
-        match tag {
-            Tag::Data => self.with(flag),
-            Tag::WindowUpdate => self.with(flag),
-            Tag::Ping => self,
-            Tag::GoAway => self,
+        match self.tag {
+            Tag::Data | Tag::WindowUpdate => self.with(flag),
+            Tag::Ping | Tag::GoAway => self,
         }
     }
 
-    pub fn syn(mut self) -> Self
+    pub fn syn(self) -> Self
         ensures { result ≡ with_syn self }
     {
         self.opening(SYN)
     }
 
-    pub fn ack(mut self) -> Self
+    pub fn ack(self) -> Self
         ensures { result ≡ with_ack self }
     {
         self.opening(ACK)
     }
 
-    pub fn fin(mut self) -> Self
+    pub fn fin(self) -> Self
         ensures { result ≡ with_fin self }
     {
         self.closing(FIN)
     }
 
-    pub fn rst(mut self) -> Self
+    pub fn rst(self) -> Self
         ensures { result ≡ with_rst self }
     {
         self.closing(RST)
@@ -242,6 +234,7 @@ impl Header {
         Header::go_away(2)
     }
 
+    // The code stays a number: a header that was read may hold any.
     fn go_away(code: u32) -> Self
         ensures { result ≡ go_away_header code }
     {
@@ -254,111 +247,108 @@ impl Header {
     }
 }
 
-impl Tag {
-    // The number that stands for the type.
-    pub fn number(self) -> u8
-        ensures { result ≡ tag_number self }
-    {
-        match self {
+impl From<Tag> for u8 {
+    ghost from_gives = { λ tag n. n ≡ tag_number tag };
+
+    fn from(tag: Tag) -> u8 {
+        match tag {
             Tag::Data => 0,
             Tag::WindowUpdate => 1,
             Tag::Ping => 2,
             Tag::GoAway => 3,
         }
     }
+}
 
-    // The type that a number stands for.
-    pub fn of(n: u8) -> Typed
-        ensures { result ≡ type_of n }
-    {
-        if n == 0 {
-            return Typed::Tag(Tag::Data);
+impl TryFrom<u8> for Tag {
+    type Error = UnknownType;
+
+    ghost try_from_gives = { λ n r. r ≡ type_of n };
+
+    fn try_from(n: u8) -> Result<Self, UnknownType> {
+        match n {
+            0 => Ok(Tag::Data),
+            1 => Ok(Tag::WindowUpdate),
+            2 => Ok(Tag::Ping),
+            3 => Ok(Tag::GoAway),
+            _ => Err(UnknownType(n)),
         }
-        if n == 1 {
-            return Typed::Tag(Tag::WindowUpdate);
-        }
-        if n == 2 {
-            return Typed::Tag(Tag::Ping);
-        }
-        if n == 3 {
-            return Typed::Tag(Tag::GoAway);
-        }
-        Typed::Unknown
     }
 }
 
-// The number of two bytes, the more significant first.
-fn number16(a: u8, b: u8) -> u16
-    ensures { result ≡ number16 a b }
-{
-    a as u16 * 256 + b as u16
+impl From<UnknownType> for HeaderDecodeError {
+    ghost from_gives = { λ unknown e. e ≡ found.Type unknown.0 };
+
+    fn from(unknown: UnknownType) -> Self {
+        HeaderDecodeError::Type(unknown.0)
+    }
 }
 
-// The number of four bytes, the most significant first.
-fn number32(a: u8, b: u8, c: u8, d: u8) -> u32
-    ensures { result ≡ number32 a b c d }
-{
-    a as u32 * 16777216 + b as u32 * 65536 + c as u32 * 256 + d as u32
+impl fmt::Display for HeaderDecodeError {
+    fn fmt<W: fmt::Write>(&self, f: &mut fmt::Formatter<W>) -> fmt::Result {
+        match self {
+            HeaderDecodeError::Version(v) => write!(f, "unknown version {v}"),
+            HeaderDecodeError::Type(t) => write!(f, "unknown frame type {t}"),
+            HeaderDecodeError::Size => f.write_str("not twelve bytes"),
+        }
+    }
 }
+
+impl fmt::Display for WrongSize {
+    fn fmt<W: fmt::Write>(&self, f: &mut fmt::Formatter<W>) -> fmt::Result {
+        f.write_str("not twelve bytes")
+    }
+}
+
+impl fmt::Display for UnknownType {
+    fn fmt<W: fmt::Write>(&self, f: &mut fmt::Formatter<W>) -> fmt::Result {
+        write!(f, "unknown frame type {}", self.0)
+    }
+}
+
+impl Error for HeaderDecodeError {}
+
+impl Error for WrongSize {}
+
+impl Error for UnknownType {}
 
 // The header that twelve bytes are, or why they are none.
-pub fn decode(buf: &[u8]) -> Decoded
+pub fn decode(buf: &[u8]) -> Result<Header, HeaderDecodeError>
     ensures { result ≡ decoded buf.now }
 {
     if buf.len() != HEADER_SIZE {
-        return Decoded::Size;
+        return Err(HeaderDecodeError::Size);
     }
     if buf[0] != 0 {
-        return Decoded::Version(buf[0]);
+        return Err(HeaderDecodeError::Version(buf[0]));
     }
-    let Typed::Tag(tag) = Tag::of(buf[1]) else {
-        return Decoded::Type(buf[1]);
-    };
-    let flags = number16(buf[2], buf[3]);
-    let stream_id = number32(buf[4], buf[5], buf[6], buf[7]);
-    let length = number32(buf[8], buf[9], buf[10], buf[11]);
-    Decoded::Header(Header {
+    let tag = Tag::try_from(buf[1])?;
+    Ok(Header {
         tag,
-        flags: Flags(flags),
-        stream_id: StreamId(stream_id),
-        length: Len(length),
+        flags: Flags(u16::from_be_bytes([buf[2], buf[3]])),
+        stream_id: StreamId(u32::from_be_bytes([buf[4], buf[5], buf[6], buf[7]])),
+        length: Len(u32::from_be_bytes([buf[8], buf[9], buf[10], buf[11]])),
     })
 }
 
 // The twelve bytes that stand for a header.
-fn wire(h: Header) -> [u8; 12]
+fn wire(h: Header) -> [u8; HEADER_SIZE]
     ensures { result ≡ wire h }
 {
-    let tag = h.tag;
-    let kind = tag.number();
-    let f = h.flags.0;
-    let s = h.stream_id.0;
-    let n = h.length.0;
-    [
-        0,
-        kind,
-        (f / 256 % 256) as u8,
-        (f % 256) as u8,
-        (s / 16777216 % 256) as u8,
-        (s / 65536 % 256) as u8,
-        (s / 256 % 256) as u8,
-        (s % 256) as u8,
-        (n / 16777216 % 256) as u8,
-        (n / 65536 % 256) as u8,
-        (n / 256 % 256) as u8,
-        (n % 256) as u8,
-    ]
+    let [f0, f1] = h.flags.0.to_be_bytes();
+    let [s0, s1, s2, s3] = h.stream_id.0.to_be_bytes();
+    let [n0, n1, n2, n3] = h.length.0.to_be_bytes();
+    [0, h.tag.into(), f0, f1, s0, s1, s2, s3, n0, n1, n2, n3]
 }
 
 // Writes the header's twelve bytes into a buffer of that size, and leaves any other as it is.
-pub fn encode(h: Header, buf: &mut [u8]) -> Encoded
+pub fn encode(h: Header, buf: &mut [u8]) -> Result<(), WrongSize>
     ensures value { result ≡ encoded buf.old }
     ensures buf_after { buf.new ≡ written h buf.old }
 {
     if buf.len() != HEADER_SIZE {
-        return Encoded::Size;
+        return Err(WrongSize);
     }
-    let bytes = wire(h);
-    buf.copy_from_slice(&bytes);
-    Encoded::Done
+    buf.copy_from_slice(&wire(h));
+    Ok(())
 }

@@ -1,45 +1,32 @@
-// Headers as document 01 gives them, and the edges of their fields, read and written again. One line each:
+// frame_vectors: headers as document 01 gives them, and the edges of their fields, read and written again. One line each:
 // the bytes, document 01's reply, then type, flags, stream id, length and the bytes written, or what was refused.
 #![tactic(auto)]
 
-use frame::header::{Credit, Decoded, Encoded, Header, Len, StreamId};
+use frame::header::{Credit, HEADER_SIZE, Header, HeaderDecodeError, Len, StreamId, WrongSize};
 use std::io;
 
-fn wide(x: u8) -> u64 {
-    x as u64
-}
-
 fn hex(rt: &impl Print, buf: &[u8]) -> io::Result<()> {
-    if buf.len() == 0 {
+    if buf.is_empty() {
         print!(rt; "-")?;
     }
-    let mut i = 0;
-    while i < buf.len() {
-        print!(rt; "{:02x}", wide(buf[i]))?;
-        i += 1;
+    for b in buf {
+        print!(rt; "{b:02x}")?;
     }
     Ok(())
 }
 
-fn number(rt: &impl Print, n: u64) -> io::Result<()> {
-    print!(rt; " {n}")
-}
-
 // A header's fields.
 fn fields(rt: &impl Print, h: Header) -> io::Result<()> {
-    let tag = h.tag;
-    number(rt, tag.number() as u64)?;
-    number(rt, h.flags.0 as u64)?;
-    number(rt, h.stream_id.0 as u64)?;
-    number(rt, h.length.0 as u64)
+    let tag = u8::from(h.tag);
+    print!(rt; " {tag} {} {} {}", h.flags.0, h.stream_id.0, h.length.0)
 }
 
 // A header's bytes.
 fn written(rt: &impl Print, h: Header) -> io::Result<()> {
-    let mut buf = [0u8; 12];
+    let mut buf = [0; HEADER_SIZE];
     match frame::header::encode(h, &mut buf) {
-        Encoded::Done => hex(rt, &buf),
-        Encoded::Size => print!(rt; "14"),
+        Ok(()) => hex(rt, &buf),
+        Err(WrongSize) => print!(rt; "14"),
     }
 }
 
@@ -47,21 +34,15 @@ fn written(rt: &impl Print, h: Header) -> io::Result<()> {
 fn read(rt: &impl Print, buf: &[u8]) -> io::Result<()> {
     hex(rt, buf)?;
     match frame::header::decode(buf) {
-        Decoded::Header(h) => {
-            number(rt, 0)?;
+        Ok(h) => {
+            print!(rt; " 0")?;
             fields(rt, h)?;
             print!(rt; " ")?;
             written(rt, h)?;
         }
-        Decoded::Version(v) => {
-            number(rt, 11)?;
-            number(rt, v as u64)?;
-        }
-        Decoded::Type(t) => {
-            number(rt, 12)?;
-            number(rt, t as u64)?;
-        }
-        Decoded::Size => number(rt, 14)?,
+        Err(HeaderDecodeError::Version(v)) => print!(rt; " 11 {v}")?,
+        Err(HeaderDecodeError::Type(t)) => print!(rt; " 12 {t}")?,
+        Err(HeaderDecodeError::Size) => print!(rt; " 14")?,
     }
     println!(rt)
 }

@@ -1,15 +1,7 @@
 -- Performing the actions of local calls is what the rules of calls say. Assumes nothing.
-use mathlib.Core.Path.{◌≡◌, refl}
-use mathlib.Core.Bool.{Bool, true, false, cond}
-use mathlib.Core.List.{List, []}
-use Prim.Native.Nat.{ℕ, ◌+◌, min}
-use lib.ListN.{length}
-use lib.Dec.{eqb, ltb, leb}
-use borrow.Author.Tests.{eqb-true}
+use Rattle.std.proofs.Common.{Option, Some, None, ◌≡◌, refl, Bool, true, false, cond, List, [], ℕ, ◌+◌, min, length, eqb, ltb, leb, eqb-true}
 use Rattle.rtt.specs.Pings.{next_ping}
 use Rattle.rtt.specs.declared.Rtt.{Rtt}
-use Rattle.rtt.specs.declared.NextPing.{NextPing}
-use Rattle.rtt.specs.declared.NextPing.TheVariants as ask
 use Rattle.flow_control.specs.Windows.{top}
 use Rattle.stream.specs.States.{can_read}
 use Rattle.stream.specs.Streams as stream
@@ -26,6 +18,7 @@ use Rattle.rules.specs.Calls.{open_at, open_rules, read_rest, read_with, window_
 use Rattle.handlers.specs.Perform.{outcome_of}
 use Rattle.handlers.specs.Locals.{perform_step, write_step, on_write, perform_write, on_close, open_in, open_with, open_action, perform_open, is_shut, nothing_read, read_ended, on_read, perform_read, ping_sent, on_tick}
 use Rattle.handlers.proofs.Rules.{both, heard_by}
+use Rattle.frame.specs.declared.header.Header.{Header}
 
 -- ---- write and close
 
@@ -101,10 +94,10 @@ read_performs c i e asked now = rw (shut c.ended c.config.read_after_close, read
 
 -- ---- tick
 
-ping-out : (c : Conn) (r : Rtt) (p : NextPing) → ping_out p (with_pings c r) ≡ heard_by c (ping_sent r p)
+ping-out : (c : Conn) (r : Rtt) (p : Option Header) → ping_out p (with_pings c r) ≡ heard_by c (ping_sent r p)
 unfolding ping_out
-ping-out c r ask.None = refl
-ping-out c r (ask.Ping h) = refl
+ping-out c r None = refl
+ping-out c r (Some h) = refl
 
 pub tick_performs : (c : Conn) (now : ℕ) → tick_rules c now ≡ heard_by c (on_tick c.pings now)
 unfolding tick_rules on_tick

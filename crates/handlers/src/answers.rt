@@ -7,10 +7,16 @@ ghost use Rattle.handlers.specs.Locals.{slot_answer};
 
 use crate::Answer;
 use frame::header::Header;
-use rules::{Reply, Slot, Value, Which, Woke};
-use stream::{Sent, StreamWakes};
+use rules::{NOBODY, Reply, Slot, Woke};
+use stream::{QUIET, StreamWakes};
 
-pub(crate) fn done(woke: bool, slot: Which, value: Value, sent: Sent, wakes: StreamWakes) -> Answer
+pub(crate) fn done(
+    woke: bool,
+    slot: Option<Slot>,
+    value: Option<u32>,
+    sent: Option<Header>,
+    wakes: StreamWakes,
+) -> Answer
     ensures { result ≡ done woke slot value sent wakes }
 {
     Answer {
@@ -30,49 +36,37 @@ pub(crate) fn done(woke: bool, slot: Which, value: Value, sent: Sent, wakes: Str
 pub(crate) fn no_action(woke: bool) -> Answer
     ensures { result ≡ no_action woke }
 {
-    let quiet = StreamWakes {
-        reader: false,
-        writer: false,
-    };
-    done(woke, Which::None, Value::None, Sent::Nothing, quiet)
+    done(woke, None, None, None, QUIET)
 }
 
 // The slot of a stream that is woken.
-fn whose(wakes: StreamWakes, slot: Slot) -> Which
+fn whose(wakes: StreamWakes, slot: Slot) -> Option<Slot>
     ensures { result ≡ whose wakes slot.0 }
 {
-    if wakes.reader {
-        return Which::At(slot);
+    if wakes.reader || wakes.writer {
+        Some(slot)
+    } else {
+        None
     }
-    if wakes.writer {
-        return Which::At(slot);
-    }
-    Which::None
 }
 
 // Done, with the stream's wakes.
 pub(crate) fn told(woke: bool, slot: Slot, wakes: StreamWakes) -> Answer
     ensures { result ≡ told woke slot wakes }
 {
-    let shown = whose(wakes, slot);
-    done(woke, shown, Value::None, Sent::Nothing, wakes)
+    done(woke, whose(wakes, slot), None, None, wakes)
 }
 
 // The answer of a call on a handle.
-pub(crate) fn at_slot(slot: Slot, reply: Reply, value: Value, sent: Sent) -> Answer
+pub(crate) fn at_slot(slot: Slot, reply: Reply, value: Option<u32>, sent: Option<Header>) -> Answer
     ensures { result ≡ slot_answer slot reply value sent }
 {
     Answer {
         reply,
-        slot: Which::At(slot),
+        slot: Some(slot),
         value,
         sent,
-        wakes: Woke {
-            reader: false,
-            writer: false,
-            opener: false,
-            all: false,
-        },
+        wakes: NOBODY,
     }
 }
 
@@ -82,14 +76,12 @@ fn go_away(woke: bool, header: Header) -> Answer
 {
     Answer {
         reply: Reply::GoAway,
-        slot: Which::None,
-        value: Value::Of(header.length.0),
-        sent: Sent::Frame(header),
+        slot: None,
+        value: Some(header.length.0),
+        sent: Some(header),
         wakes: Woke {
-            reader: false,
-            writer: false,
             opener: woke,
-            all: false,
+            ..NOBODY
         },
     }
 }
@@ -97,13 +89,11 @@ fn go_away(woke: bool, header: Header) -> Answer
 pub(crate) fn protocol_error(woke: bool) -> Answer
     ensures { result ≡ terminate woke protocol_error }
 {
-    let header = Header::protocol_error();
-    go_away(woke, header)
+    go_away(woke, Header::protocol_error())
 }
 
 pub(crate) fn internal_error(woke: bool) -> Answer
     ensures { result ≡ terminate woke internal_error }
 {
-    let header = Header::internal_error();
-    go_away(woke, header)
+    go_away(woke, Header::internal_error())
 }

@@ -3,51 +3,50 @@ ghost use Rattle.std.specs.Prelude.{◌≡◌};
 ghost use Rattle.handlers.specs.Locals.{write_step, on_write, on_close, on_drop, ping_sent, on_tick};
 
 use crate::{Answer, PingStep, answers};
-use rtt::{NextPing, Rtt};
-use rules::{Reply, Slot, Value, Which};
-use stream::{Sent, Stream, StreamWakes, Written};
+use frame::header::Header;
+use rtt::Rtt;
+use rules::{Reply, Slot};
+use stream::{QUIET, Stream, Written};
 
 // What a call leaves of the handle's stream, which is in the table if it was, and what the call answers.
-#[derive(Clone, Copy)]
+#[derive(Clone, Copy, Debug, PartialEq, Eq)]
 pub struct StreamStep {
     pub stream: Stream,
     pub answer: Answer,
 }
 
-// What a write does.
-#[derive(Clone, Copy)]
-pub enum WriteStep {
-    // Nothing: the stream, or the connection, is closed for writing.
-    Closed,
-    Kept(StreamStep),
-}
-
-fn write_step(slot: Slot, written: Written) -> WriteStep
+fn write_step(slot: Slot, written: Written) -> Result<StreamStep, Reply>
     ensures { result ≡ write_step slot written }
 {
     match written {
-        Written::Closed => WriteStep::Closed,
+        Written::Closed => Err(Reply::WriteClosed),
         Written::Wait(stream) => {
-            let answer = answers::at_slot(slot, Reply::Wait, Value::None, Sent::Nothing);
-            WriteStep::Kept(StreamStep { stream, answer })
+            let answer = answers::at_slot(slot, Reply::Wait, None, None);
+            Ok(StreamStep { stream, answer })
         }
         Written::Frame(stream, header) => {
             let n = header.length.0;
-            let answer = answers::at_slot(slot, Reply::Done, Value::Of(n), Sent::Frame(header));
-            WriteStep::Kept(StreamStep { stream, answer })
+            let answer = answers::at_slot(slot, Reply::Done, Some(n), Some(header));
+            Ok(StreamStep { stream, answer })
         }
     }
 }
 
-// What a write of so many bytes does; the header's length says how many of them go out.
-pub fn on_write(ended: bool, slot: Slot, stream: Stream, given: usize, split: u32) -> WriteStep
+// What a write of so many bytes does; the header's length says how many of them go out. Where the stream, or the connection, is closed for
+// writing, it is refused.
+pub fn on_write(
+    ended: bool,
+    slot: Slot,
+    stream: Stream,
+    given: usize,
+    split: u32,
+) -> Result<StreamStep, Reply>
     ensures { result ≡ on_write ended slot stream given split }
 {
     if ended {
-        return WriteStep::Closed;
+        return Err(Reply::WriteClosed);
     }
-    let written = stream.write(given, split);
-    write_step(slot, written)
+    write_step(slot, stream.write(given, split))
 }
 
 // What a close does.
@@ -55,10 +54,10 @@ pub fn on_close(slot: Slot, stream: Stream) -> StreamStep
     ensures { result ≡ on_close slot stream }
 {
     let closing = stream.close();
-    let stream = closing.stream;
-    let sent = closing.sent;
-    let answer = answers::at_slot(slot, Reply::Done, Value::None, sent);
-    StreamStep { stream, answer }
+    StreamStep {
+        stream: closing.stream,
+        answer: answers::at_slot(slot, Reply::Done, None, closing.sent),
+    }
 }
 
 // What a drop does to the stream in the table that has the handle's id.
@@ -66,41 +65,27 @@ pub fn on_drop(slot: Slot, stream: Stream) -> StreamStep
     ensures { result ≡ on_drop slot stream }
 {
     let dropped = stream.drop();
-    let stream = dropped.stream;
-    let sent = dropped.sent;
-    let wakes = dropped.wakes;
-    let answer = answers::done(false, Which::At(slot), Value::None, sent, wakes);
-    StreamStep { stream, answer }
+    StreamStep {
+        stream: dropped.stream,
+        answer: answers::done(false, Some(slot), None, dropped.sent, dropped.wakes),
+    }
 }
 
-fn ping_sent(rtt: Rtt, ping: NextPing) -> PingStep
+fn ping_sent(rtt: Rtt, ping: Option<Header>) -> PingStep
     ensures { result ≡ ping_sent rtt ping }
 {
-    let NextPing::Ping(header) = ping else {
-        let answer = answers::no_action(false);
-        return PingStep { rtt, answer };
+    let answer = match ping {
+        Some(header) => answers::done(false, None, Some(header.id()), ping, QUIET),
+        None => answers::no_action(false),
     };
-    let quiet = StreamWakes {
-        reader: false,
-        writer: false,
-    };
-    let id = header.id();
-    let answer = answers::done(
-        false,
-        Which::None,
-        Value::Of(id),
-        Sent::Frame(header),
-        quiet,
-    );
     PingStep { rtt, answer }
 }
 
 // The ping that is due, if one is.
+#[tactic(auto, unfolding(crate::specs::Locals::on_tick))]
 pub fn on_tick(rtt: Rtt, now: u64) -> PingStep
     ensures { result ≡ on_tick rtt now }
 {
     let pinged = rtt.next_ping(now);
-    let after = pinged.rtt;
-    let ping = pinged.ping;
-    ping_sent(after, ping)
+    ping_sent(pinged.rtt, pinged.ping)
 }

@@ -13,30 +13,31 @@ ghost use Rattle.std.specs.Prelude.{◌≡◌};
 ghost use Rattle.handlers.specs.Actions.{acked, on_reset, is_update, receive, violated, stream_action};
 ghost use Rattle.rules.specs.Frames.{body_length};
 
+use flow_control::InvalidWindowUpdate;
 use frame::header::{ACK, FIN, Header, RST, SYN, StreamId, Tag};
 use rtt::Rtt;
-use rules::{Mode, Reply, Slot, Value, Which, Woke};
-use stream::{Received, Sent, Stream};
+use rules::{Mode, Reply, Slot, Woke};
+use stream::{Stream, Woken};
 
 // What a call answers, but for bytes: a body and bytes read stand in lent memory. The narrow parts come last, as in `Connection`.
-#[derive(Clone, Copy)]
+#[derive(Clone, Copy, Debug, PartialEq, Eq)]
 pub struct Answer {
-    pub slot: Which,
-    pub value: Value,
-    pub sent: Sent,
+    pub slot: Option<Slot>,
+    pub value: Option<u32>,
+    pub sent: Option<Header>,
     pub wakes: Woke,
     pub reply: Reply,
 }
 
 // The frame's stream in the table, as the ACK step left it.
-#[derive(Clone, Copy)]
-pub enum Known {
-    At(Slot, Stream),
-    Nowhere,
+#[derive(Clone, Copy, Debug, PartialEq, Eq)]
+pub struct Known {
+    pub slot: Slot,
+    pub stream: Stream,
 }
 
 // What a frame or a call on a handle does to the table and the pool.
-#[derive(Clone, Copy)]
+#[derive(Clone, Copy, Debug, PartialEq, Eq)]
 pub enum Action {
     // Nothing: all is as before.
     Refuse(Reply),
@@ -51,21 +52,21 @@ pub enum Action {
 }
 
 // The pings after a Ping frame or a tick, and what it answers.
-#[derive(Clone, Copy)]
+#[derive(Clone, Copy, Debug, PartialEq, Eq)]
 pub struct PingStep {
     pub rtt: Rtt,
     pub answer: Answer,
 }
 
 // The id of an own stream and the one after it.
-#[derive(Clone, Copy)]
-pub enum NextId {
-    Id(StreamId, u32),
-    NoMore,
+#[derive(Clone, Copy, Debug, PartialEq, Eq)]
+pub struct NextId {
+    pub id: StreamId,
+    pub after: u32,
 }
 
 // What an open does.
-#[derive(Clone, Copy)]
+#[derive(Clone, Copy, Debug, PartialEq, Eq)]
 pub enum Opening {
     // The connection ends.
     End(Reply),
@@ -76,7 +77,7 @@ pub enum Opening {
 }
 
 // What a read leaves and answers; as many bytes are read as the answer's value counts.
-#[derive(Clone, Copy)]
+#[derive(Clone, Copy, Debug, PartialEq, Eq)]
 pub struct ReadStep {
     pub stream: Stream,
     pub growth: u64,
@@ -84,7 +85,7 @@ pub struct ReadStep {
 }
 
 // The connection's part in the SYN rules.
-#[derive(Clone, Copy)]
+#[derive(Clone, Copy, Debug, PartialEq, Eq)]
 pub struct Limits {
     pub mode: Mode,
     pub max_num_streams: u32,
@@ -96,92 +97,81 @@ pub struct Limits {
 pub fn acked(header: Header, stream: Stream) -> Stream
     ensures { result ≡ acked header stream }
 {
-    let flags = header.flags;
-    if flags.contains(ACK) {
-        return stream.acknowledge();
+    if header.flags.contains(ACK) {
+        stream.acknowledge()
+    } else {
+        stream
     }
-    stream
 }
 
 // The stream is closed for good and leaves the table.
-pub fn on_reset(woke: bool, known: Known) -> Action
+#[tactic(auto, unfolding(crate::specs::Actions::on_reset))]
+pub fn on_reset(woke: bool, known: Option<Known>) -> Action
     ensures { result ≡ on_reset woke known }
 {
-    let Known::At(slot, stream) = known else {
-        let answer = answers::no_action(woke);
-        return Action::Answer(answer);
+    let Some(Known { slot, stream }) = known else {
+        return Action::Answer(answers::no_action(woke));
     };
-    let woken = stream.reset();
-    let closed = woken.stream;
-    let answer = answers::told(woke, slot, woken.wakes);
-    Action::Store(slot, closed, false, answer)
+    let Woken { stream, wakes } = stream.reset();
+    Action::Store(slot, stream, false, answers::told(woke, slot, wakes))
 }
 
 // How long the frame's body is by its header: a Data frame's length, and none on another type.
 pub fn body_length(header: Header) -> u32
     ensures { result ≡ body_length header.tag header.length.0 }
 {
-    let tag = header.tag;
-    match tag {
+    match header.tag {
         Tag::Data => header.length.0,
-        Tag::WindowUpdate => 0,
-        Tag::Ping => 0,
-        Tag::GoAway => 0,
+        Tag::WindowUpdate | Tag::Ping | Tag::GoAway => 0,
     }
 }
 
 pub(crate) fn is_window_update(header: Header) -> bool
     ensures { result ≡ is_update header.tag }
 {
-    let tag = header.tag;
-    match tag {
-        Tag::Data => false,
-        Tag::WindowUpdate => true,
-        Tag::Ping => false,
-        Tag::GoAway => false,
-    }
+    matches!(header.tag, Tag::WindowUpdate)
 }
 
 // What the stream makes of the frame: a WindowUpdate's credit, or a Data frame's body.
-pub(crate) fn receive(stream: Stream, header: Header) -> Received
+#[tactic(auto, unfolding(crate::specs::Actions::receive))]
+pub(crate) fn receive(stream: Stream, header: Header) -> Result<Woken, InvalidWindowUpdate>
     ensures { result ≡ receive stream header }
 {
-    let flags = header.flags;
-    let fin = flags.contains(FIN);
+    let fin = header.flags.contains(FIN);
     if is_window_update(header) {
-        let credit = header.credit();
-        return stream.on_window_update(credit, fin);
+        stream.on_window_update(header.credit(), fin)
+    } else {
+        stream.on_data(header.length.0, fin)
     }
-    stream.on_data(header.length.0, fin)
 }
 
 // A GoAway with code 1. The stream stays as the ACK step left it.
-pub(crate) fn violated(woke: bool, known: Known) -> Action
+pub(crate) fn violated(woke: bool, known: Option<Known>) -> Action
     ensures { result ≡ violated woke known }
 {
     let answer = answers::protocol_error(woke);
     match known {
-        Known::At(slot, stream) => Action::Store(slot, stream, true, answer),
-        Known::Nowhere => Action::Answer(answer),
+        Some(Known { slot, stream }) => Action::Store(slot, stream, true, answer),
+        None => Action::Answer(answer),
     }
 }
 
 // What a Data frame or a WindowUpdate does. The vacancy matters only with SYN.
+#[tactic(auto, unfolding(crate::specs::Actions::stream_action))]
 pub fn on_stream(
     limits: Limits,
     woke: bool,
-    known: Known,
-    vacancy: Which,
+    known: Option<Known>,
+    vacancy: Option<Slot>,
     header: Header,
     now: u64,
 ) -> Action
     ensures { result ≡ stream_action limits woke known vacancy header now }
 {
-    let flags = header.flags;
-    if flags.contains(RST) {
+    if header.flags.contains(RST) {
         return on_reset(woke, known);
     }
-    if flags.contains(SYN) {
+    if header.flags.contains(SYN) {
         return syn::on_syn(limits, woke, known, vacancy, header, now);
     }
     known_stream::on_known(limits.room, woke, known, header)

@@ -1,13 +1,7 @@
 -- What a change of one slot, and of all, leaves of valid memory. Assumes nothing.
-use mathlib.Core.Bool.{Bool, true, false}
-use mathlib.Core.List.{List, [], ◌++◌}
-use mathlib.Core.Path.{◌≡◌, refl, sym, ap, ◌∙◌}
-use Prim.Native.Nat.{ℕ, ◌+◌, ◌-◌, ◌%◌, ◌^◌, min, ◌≤◌, ◌<◌}
+use Rattle.std.proofs.Common.{Bool, true, false, List, [], ◌++◌, ◌≡◌, refl, sym, ap, ◌∙◌, ℕ, ◌+◌, ◌-◌, ◌%◌, ◌^◌, min, ◌≤◌, ◌<◌, arith, eq-eqb, length, drop, set, get_or-set_same, get_or-set_other}
 use native.Mathlib.Decide.{ℕ_discrete}
-use native.Mathlib.Omega.{arith}
-use borrow.Author.Tests.{eq-eqb}
-use lib.ListN.{length, drop, set}
-use lib.Seq.{get_or-set_same, get_or-set_other, set-get_or}
+use lib.Seq.{set-get_or}
 use Rattle.chunks.specs.Blocks.{blocks_for}
 use Rattle.chunks.specs.Many.{Turned, sizes, contents, unreads}
 use Rattle.chunks.specs.Many as many

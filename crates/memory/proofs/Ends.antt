@@ -1,9 +1,6 @@
 -- What the end of a connection, and a new layout, leave. Assumes nothing.
-use mathlib.Core.List.{List, [], ◌∷◌, map}
-use mathlib.Core.Path.{◌≡◌, refl, sym, ap, ◌∙◌}
-use Prim.Native.Nat.{ℕ, zero, suc, ◌<◌}
-use native.Mathlib.Omega.{arith}
-use lib.ListN.{length, replicate, length-replicate, get_or-replicate, get_or-map}
+use Rattle.std.proofs.Common.{List, [], ◌∷◌, map, ◌≡◌, refl, sym, ap, ◌∙◌, ℕ, zero, suc, ◌<◌, arith, length, replicate}
+use lib.ListN.{length-replicate, get_or-replicate, get_or-map}
 use Rattle.chunks.specs.Many.{contents, unreads}
 use Rattle.chunks.specs.Many as many
 use Rattle.chunks.specs.Store.{none, Started}

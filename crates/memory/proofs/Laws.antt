@@ -1,13 +1,7 @@
 -- What valid memory says of the slots that it holds: the laws that the layer above cites. Assumes nothing.
-use mathlib.Core.Bool.{Bool, true, false, cond}
-use mathlib.Core.List.{List}
-use mathlib.Core.Path.{◌≡◌, refl, sym, ap, ◌∙◌}
-use Prim.Native.Nat.{ℕ, ◌-◌, ◌*◌, ◌^◌, ◌≤◌, ◌<◌}
+use Rattle.std.proofs.Common.{Option, Bool, true, false, cond, List, ◌≡◌, refl, sym, ap, ◌∙◌, ℕ, ◌-◌, ◌*◌, ◌^◌, ◌≤◌, ◌<◌, arith, eqb-true, eq-eqb, eqb, length}
 use native.Mathlib.Decide.{dec_lt}
-use native.Mathlib.Omega.{arith}
-use borrow.Author.Tests.{eqb-true, eq-eqb}
-use lib.Dec.{eqb}
-use lib.ListN.{length, get_or-eq_default}
+use lib.ListN.{get_or-eq_default}
 use Rattle.frame.specs.declared.header.StreamId.{StreamId}
 use Rattle.chunks.specs.Blocks.{BLOCK, blocks_for}
 use Rattle.chunks.specs.Many as many
@@ -24,7 +18,6 @@ use Rattle.table.specs.Rows as rows
 use Rattle.table.specs.Table.{row_at, view, nth, Finds}
 use Rattle.table.specs.Table as table
 use Rattle.table.specs.declared.row.Row.{Row}
-use Rattle.rules.specs.declared.Which.{Which}
 use Rattle.table.proofs.Laws.{length-view, nth-view}
 use Rattle.rules.proofs.Lists.{never, both, Says, first_says, first_same, sum_same}
 use Rattle.table.proofs.Searches.{found, lowest}
@@ -33,6 +26,7 @@ use Rattle.memory.specs.Moves.{held}
 use Rattle.memory.specs.Slots.{queues, entry_of, slots_of, Sized, Valid}
 use Rattle.memory.specs.declared.Memory.{Memory}
 use Rattle.memory.proofs.Lists.{length-queues, nth-queues, unreads-sum, length-contents, length-entries, nth-entries, sum_ones}
+use Rattle.rules.specs.declared.Slot.{Slot}
 
 -- ---- a row and its entry
 
@@ -148,7 +142,7 @@ module _ (m : Memory) (t l p : List ℕ) (v : Valid m t l p) where
   as_many = length-view t K ∙ sym slots_length
 
   -- 01: "id in the table". The table's search finds the slot that the rules do.
-  pub find-slots : (id : StreamId) (f : Which) → Finds t m.slots id f → f ≡ found_of (rules.find (slots_of m t l p) id)
+  pub find-slots : (id : StreamId) (f : Option Slot) → Finds t m.slots id f → f ≡ found_of (rules.find (slots_of m t l p) id)
   find-slots id f h =
       found t K id v.sized.table v.tied v.distinct f h
       ∙ ap found_of (first_same (rows.has_id id) (rules.has_id id) rs (slots_of m t l p) blank vacant as_many

@@ -1,10 +1,5 @@
 -- Laws of rows and their unread bytes as entries. Assumes nothing.
-use mathlib.Core.Bool.{Bool, true, false}
-use mathlib.Core.List.{List, [], ◌∷◌, map}
-use mathlib.Core.Path.{◌≡◌, refl, ap}
-use Prim.Native.Nat.{ℕ, zero, suc, ◌+◌, ◌≤◌}
-use native.Mathlib.Omega.{arith}
-use lib.ListN.{length, get_or, set, replicate}
+use Rattle.std.proofs.Common.{Bool, true, false, List, [], ◌∷◌, map, ◌≡◌, refl, ap, ℕ, zero, suc, ◌+◌, ◌≤◌, arith, length, get_or, set, replicate}
 use Rattle.chunks.specs.Many.{contents, unreads}
 use Rattle.chunks.specs.Many as many
 use Rattle.chunks.specs.declared.Queue.{Queue}

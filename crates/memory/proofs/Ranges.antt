@@ -1,8 +1,5 @@
 -- The numbers of a stream and of a queue are those of their types, so a row holds them. Assumes nothing.
-use mathlib.Core.Bool.{Bool}
-use mathlib.Core.List.{List}
-use mathlib.Core.Path.{refl}
-use Prim.Native.Nat.{◌<◌}
+use Rattle.std.proofs.Common.{Bool, List, refl, ◌<◌}
 use denote.Laws.{Is}
 use denote.Struct.Declared.{row}
 use mir.Val.{Val}

@@ -1,10 +1,5 @@
 -- Valid memory that holds the same slots is the same but for blocks. Assumes nothing.
-use mathlib.Core.Bool.{Bool, true, false}
-use mathlib.Core.List.{List, [], ◌∷◌}
-use mathlib.Core.Path.{◌≡◌, refl, sym, ap, ◌∙◌}
-use Prim.Native.Nat.{ℕ, zero, suc, ◌+◌, ◌<◌}
-use native.Mathlib.Omega.{arith}
-use lib.ListN.{length}
+use Rattle.std.proofs.Common.{Bool, true, false, List, [], ◌∷◌, ◌≡◌, refl, sym, ap, ◌∙◌, ℕ, zero, suc, ◌+◌, ◌<◌, arith, length}
 use Rattle.chunks.specs.Blocks.{blocks_for}
 use Rattle.chunks.specs.Many.{sizes}
 use Rattle.chunks.specs.Many as many

@@ -1,4 +1,5 @@
-// The lent memory as one: the stream table, the links and the pool, with what is counted beside them.
+// The lent memory as one: the stream table, the links and the pool, with what is counted beside them. The three stay parameters of each
+// call: a struct of three `&mut` slices owes their names, lengths and untouched parts in every contract, and is no plainer.
 #![tactic(auto)]
 
 ghost use Rattle.std.specs.Prelude.{◌≡◌, ◌+◌, ◌-◌, ◌%◌, ◌^◌};
@@ -12,7 +13,7 @@ use stream::Stream;
 use table::row::Row;
 
 // The sizes, the free blocks, how many streams are in the table, and how many bytes are unread.
-#[derive(Clone, Copy)]
+#[derive(Clone, Copy, Debug, PartialEq, Eq)]
 pub struct Memory {
     pub slots: u32,
     pub pool: u32,
@@ -21,33 +22,25 @@ pub struct Memory {
     pub unread: u32,
 }
 
-// How many numbers have 32 bits.
-const RANGE: usize = u32::MAX as usize + 1;
-
 // The sum's low 32 bits: all of it, in valid memory.
 fn more(n: u32, by: usize) -> u32
     ensures { result ≡ (n + by) % (2 ^ 32) }
 {
-    (((n as usize) + by % RANGE) % RANGE) as u32
+    n.wrapping_add((by & 0xffff_ffff) as u32)
 }
 
 // The difference; 0 where there is none.
 fn less(n: u32, by: usize) -> u32
     ensures { result ≡ n - by }
 {
-    let k = n as usize;
-    if by < k { (k - by) as u32 } else { 0 }
+    (n as usize).saturating_sub(by) as u32
 }
 
 // How many streams are in the table once one of them leaves or stays.
 fn left(n: u32, was: bool, stays: bool) -> u32
     ensures { result ≡ left n was stays }
 {
-    if was {
-        if stays { n } else { less(n, 1) }
-    } else {
-        n
-    }
+    if was && !stays { less(n, 1) } else { n }
 }
 
 // Puts a held slot's row.
@@ -71,30 +64,21 @@ fn put(table: &mut [u64], k: u32, slot: Slot, stream: Stream, listed: bool, queu
 pub fn table_fits(k: u32, table_len: usize) -> bool
     ensures { result ≡ table_fits k table_len }
 {
-    let size = table::size(k);
-    table_len == size
+    table_len == table::size(k)
 }
 
 // Whether a lent table and lent links of these lengths have the sizes for k slots and p bytes.
 pub fn links_fit(k: u32, p: u32, table_len: usize, links_len: usize) -> bool
     ensures { result ≡ links_fit k p table_len links_len }
 {
-    if table_fits(k, table_len) {
-        let count = chunks::blocks(k, p);
-        return links_len == count;
-    }
-    false
+    table_fits(k, table_len) && links_len == chunks::blocks(k, p)
 }
 
 // Whether a lent table, links and pool of these lengths have the sizes for k slots and p bytes.
 pub fn fits(k: u32, p: u32, table_len: usize, links_len: usize, pool_len: usize) -> bool
     ensures { result ≡ fits k p table_len links_len pool_len }
 {
-    if links_fit(k, p, table_len, links_len) {
-        let size = chunks::pool_len(k, p);
-        return pool_len == size;
-    }
-    false
+    links_fit(k, p, table_len, links_len) && pool_len == chunks::pool_len(k, p)
 }
 
 // Frees every slot and every block.
@@ -117,11 +101,7 @@ impl Memory {
     pub fn room(self) -> u32
         ensures { result ≡ self.pool - self.unread }
     {
-        if self.unread < self.pool {
-            self.pool - self.unread
-        } else {
-            0
-        }
+        self.pool.saturating_sub(self.unread)
     }
 
     // The memory with these free blocks and counts.

@@ -1,11 +1,5 @@
 -- A read's value counts the bytes that it gives. Assumes nothing.
-use mathlib.Core.Path.{◌≡◌, refl, sym}
-use mathlib.Core.Bool.{true, false, cond}
-use Prim.Native.Nat.{ℕ, min, ◌≤◌}
-use native.Mathlib.Omega.{arith}
-use lib.Dec.{ltb}
-use lib.ListN.{length}
-use lib.Seq.{length-take-le}
+use Rattle.std.proofs.Common.{◌≡◌, refl, sym, true, false, cond, ℕ, min, ◌≤◌, arith, ltb, length, length-take-le}
 use Rattle.stream.specs.Streams as stream
 use Rattle.stream.specs.declared.Updated.{Updated}
 use Rattle.stream.specs.declared.ReadEnd.{ReadEnd}
@@ -13,12 +7,12 @@ use Rattle.stream.specs.declared.ReadEnd.TheVariants as reading
 use Rattle.rules.specs.Settings.{last_time}
 use Rattle.rules.specs.Replies.{count_of}
 use Rattle.rules.specs.State.{Entry, Conn, entry}
-use Rattle.rules.specs.Ending.{Result}
+use Rattle.rules.specs.Ending.{Effect}
 use Rattle.rules.specs.Calls.{read_rest, read_with, window_step, read_rules}
 use Rattle.rules.specs.Step.{step, read}
 use Rattle.rules.proofs.Lists.{either}
 
-record Counting (r : Result) : Type 0 where
+record Counting (r : Effect) : Type 0 where
   counted : count_of r.outcome.value ≡ length r.outcome.bytes
 
 rest_counts : (c : Conn) (i : ℕ) (e : Entry) (u : Updated) (n : ℕ) (r : ReadEnd) → n ≤ length e.bytes → Counting (read_rest c i e u n r)

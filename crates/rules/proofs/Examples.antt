@@ -1,32 +1,22 @@
 -- Document 01's worked trace and its 'Proved examples', by computation. Assumes nothing.
-use mathlib.Core.Path.{◌≡◌, refl}
-use mathlib.Core.Bool.{Bool, true, false, cond}
-use mathlib.Core.List.{List, [], ◌∷◌}
-use Prim.Native.Nat.{ℕ, ◌/◌, ◌%◌}
-use lib.ListN.{get_or, length, replicate}
-use lib.Dec.{eqb}
+use Rattle.std.proofs.Common.{Option, Some, None, Ok, ◌≡◌, refl, Bool, true, false, cond, List, [], ◌∷◌, ℕ, ◌/◌, ◌%◌, get_or, length, replicate, eqb}
 use Rattle.frame.specs.declared.header.Tag.{Tag}
 use Rattle.frame.specs.declared.header.Tag.TheVariants as tag
-use Rattle.stream.specs.declared.Sent.{Sent}
-use Rattle.stream.specs.declared.Sent.TheVariants.{Frame, Nothing}
 use Rattle.rules.specs.declared.Config.{Config}
-use Rattle.rules.specs.declared.Checked.TheVariants.{Fine}
 use Rattle.rules.specs.declared.Settings.{Settings}
 use Rattle.rules.specs.declared.Mode.{Mode}
 use Rattle.rules.specs.declared.Mode.TheVariants.{Client, Server}
 use Rattle.rules.specs.declared.Reply.{Reply}
 use Rattle.rules.specs.declared.Reply.TheVariants as reply
-use Rattle.rules.specs.declared.Which.TheVariants as which
-use Rattle.rules.specs.declared.Value.{Value}
-use Rattle.rules.specs.declared.Value.TheVariants as value
 use Rattle.rules.specs.Settings.{checked, config_of}
 use Rattle.rules.specs.Replies.{Outcome, number, no_wakes, bare}
 use Rattle.rules.specs.State.{Conn, initial, entry, with_next_id}
 use Rattle.rules.specs.Frames.{ack_step, on_reset, make_at, make, syn_rules, syn_data, syn_update, take_at, known_data, known_update, data_rules, update_rules, pong_rules, ping_rules, frame_rules, on_header}
 use Rattle.rules.specs.Calls.{open_at, open_rules, read_rest, read_with, window_step, read_rules, write_with, write_rules, close_rules, drop_at, drop_rules, ping_out, tick_rules}
-use Rattle.rules.specs.Ending.{Result, gives}
+use Rattle.rules.specs.Ending.{Effect, gives}
 use Rattle.rules.specs.Step.{on_decoded, step}
 use Rattle.rules.specs.Step
+use Rattle.frame.specs.declared.header.Header.{Header}
 
 -- ---- the worked trace
 
@@ -56,27 +46,27 @@ calls =
     ∷ Step.drop 0 0
     ∷ []
 
-data_frame : ℕ → ℕ → Sent
-data_frame flags n = Frame (record { tag = tag.Data; flags = record { 0 = flags }; stream_id = record { 0 = 1 }; length = record { 0 = n } })
+data_frame : ℕ → ℕ → Option Header
+data_frame flags n = Some (record { tag = tag.Data; flags = record { 0 = flags }; stream_id = record { 0 = 1 }; length = record { 0 = n } })
 
-line : Reply → Value → Sent → List ℕ → Outcome
-line r v h b = record { reply = r; slot = which.At (record { 0 = 0 }); value = v; header = h; body = []; wakes = no_wakes; bytes = b }
+line : Reply → Option ℕ → Option Header → List ℕ → Outcome
+line r v h b = record { reply = r; slot = Some (record { 0 = 0 }); value = v; header = h; body = []; wakes = no_wakes; bytes = b }
 
 -- the lines of document 01's trace, in its order
 pub lines : List Outcome
 unfolding data_frame line
 lines =
-    line reply.Done (value.Of 1) Nothing []
-    ∷ record { reply = reply.Done; slot = which.At (record { 0 = 0 }); value = value.Of 4; header = data_frame 1 4; body = 100 ∷ 117 ∷ 115 ∷ 116 ∷ []; wakes = no_wakes; bytes = [] }
+    line reply.Done (Some 1) None []
+    ∷ record { reply = reply.Done; slot = Some (record { 0 = 0 }); value = Some 4; header = data_frame 1 4; body = 100 ∷ 117 ∷ 115 ∷ 116 ∷ []; wakes = no_wakes; bytes = [] }
     ∷ bare reply.Done
-    ∷ line reply.Wait value.None Nothing []
-    ∷ record { reply = reply.Done; slot = which.At (record { 0 = 0 }); value = value.None; header = Nothing; body = []; wakes = record { reader = true; writer = false; opener = false; all = false }; bytes = [] }
-    ∷ line reply.Done (value.Of 2) Nothing (111 ∷ 107 ∷ [])
-    ∷ line reply.Done (value.Of 0) Nothing []
-    ∷ line reply.Done value.None (data_frame 4 0) []
+    ∷ line reply.Wait None None []
+    ∷ record { reply = reply.Done; slot = Some (record { 0 = 0 }); value = None; header = None; body = []; wakes = record { reader = true; writer = false; opener = false; all = false }; bytes = [] }
+    ∷ line reply.Done (Some 2) None (111 ∷ 107 ∷ [])
+    ∷ line reply.Done (Some 0) None []
+    ∷ line reply.Done None (data_frame 4 0) []
     ∷ []
 
-pub settings_fine : checked settings ≡ Fine (config_of settings)
+pub settings_fine : checked settings ≡ Ok (config_of settings)
 unfolding settings
 settings_fine = refl
 
@@ -110,9 +100,9 @@ pub all : List Bool → Bool
 all [] = true
 all (b ∷ bs) = cond b (all bs) false
 
-valued : Value → ℕ → Bool
-valued (value.Of n) v = eqb n v
-valued value.None v = false
+valued : Option ℕ → ℕ → Bool
+valued (Some n) v = eqb n v
+valued None v = false
 
 -- the reply has this number, and the answer this value
 pub numbered : Outcome → ℕ → ℕ → Bool
@@ -133,11 +123,11 @@ header t flags n =
     0 ∷ t ∷ 0 ∷ flags ∷ 0 ∷ 0 ∷ 0 ∷ 2 ∷ n / 16777216 % 256 ∷ n / 65536 % 256 ∷ n / 256 % 256 ∷ n % 256 ∷ []
 
 -- a WindowUpdate with SYN, and a Data frame with SYN, on a client's new connection
-pub syn_credit : ℕ → Result
+pub syn_credit : ℕ → Effect
 unfolding config header
 syn_credit n = Step.step (initial (config Client)) (Step.frame 0 (header 1 1 n) [])
 
-pub syn_body : ℕ → Result
+pub syn_body : ℕ → Effect
 unfolding config header zeros
 syn_body n = Step.step (initial (config Client)) (Step.frame 0 (header 0 1 n) (zeros n))
 
@@ -159,7 +149,7 @@ primed n =
     ∷ Step.read 2000 0 n
     ∷ [])).after
 
-pub read_after : ℕ → ℕ → Result
+pub read_after : ℕ → ℕ → Effect
 unfolding primed
 read_after n now = Step.step (primed n) (Step.read now 0 0)
 
@@ -190,7 +180,7 @@ older =
     (Step.read 0 0 1)).outcome.bytes 0 0
 
 -- RST with SYN on an unknown id
-pub syn_reset : Result
+pub syn_reset : Effect
 unfolding config header
 syn_reset = Step.step (initial (config Client)) (Step.frame 0 (header 0 9 0) [])
 
@@ -201,10 +191,10 @@ is_update tag.Ping = false
 is_update tag.GoAway = false
 
 -- the frame to send is a WindowUpdate on stream 2, with its first ACK and this credit; or, of credit 0, there is none
-pub grants : Sent → ℕ → Bool
+pub grants : Option Header → ℕ → Bool
 unfolding is_update
-grants Nothing n = eqb n 0
-grants (Frame h) n =
+grants None n = eqb n 0
+grants (Some h) n =
     cond (is_update h.tag)
     (cond (eqb h.flags.0 2) (cond (eqb h.stream_id.0 2) (eqb h.length.0 n) false) false)
     false

@@ -1,20 +1,12 @@
 -- What the judgement of settings says of any ten numbers: the first wrong one in order is named, and none where every test holds. Assumes
 -- nothing.
-use mathlib.Core.Path.{◌≡◌, refl, sym, ap, subst, ◌∙◌}
-use mathlib.Core.Bool.{Bool, true, false, cond}
-use mathlib.Core.List.{List, [], ◌∷◌}
-use Prim.Native.Nat.{ℕ, suc, ◌≤◌, ◌<◌}
-use native.Mathlib.Omega.{arith}
-use lib.Dec.{eqb, ltb, leb}
-use borrow.Author.Tests.{ltb-true, ltb-false}
+use Rattle.std.proofs.Common.{Result, Ok, Err, ◌≡◌, refl, sym, ap, subst, ◌∙◌, Bool, true, false, cond, List, [], ◌∷◌, ℕ, suc, ◌≤◌, ◌<◌, arith, eqb, ltb, leb, ltb-true, ltb-false}
 use Rattle.rules.specs.Settings.{within, config_of, holds, setting_number, judged, in_order, checked_within, permitted, checked, FirstWrong}
 use Rattle.rules.specs.declared.Settings.{Settings}
 use Rattle.rules.specs.declared.Most.{Most}
 use Rattle.rules.specs.declared.Config.{Config}
 use Rattle.rules.specs.declared.Setting.{Setting}
 use Rattle.rules.specs.declared.Setting.TheVariants as setting
-use Rattle.rules.specs.declared.Checked.{Checked}
-use Rattle.rules.specs.declared.Checked.TheVariants.{Fine, Wrong}
 use Rattle.rules.proofs.Lists.{never, both, split}
 
 -- ---- the numbers
@@ -90,11 +82,11 @@ module _ (ok : Setting → Bool) where
       go v f false q = omega (arith, e, ltb-false (setting_number v) n q)
 
   -- what an answer says of the tests
-  abbrev Says : Config → Checked → Type 0
-  Says k (Wrong w) = FirstWrong ok w
-  Says k (Fine c) = ((v : Setting) → ok v ≡ true) × (c ≡ k)
+  abbrev Says : Config → Result Config Setting → Type 0
+  Says k (Err w) = FirstWrong ok w
+  Says k (Ok c) = ((v : Setting) → ok v ≡ true) × (c ≡ k)
 
-  says : (n : ℕ) (ws : List Setting) (k : Config) → Numbered n ws → Before n → Says k (judged ok ws (Fine k))
+  says : (n : ℕ) (ws : List Setting) (k : Config) → Numbered n ws → Before n → Says k (judged ok ws (Ok k))
   says n [] k e before = (λ v. before v (omega (arith, e, (numbers_beyond v).1)), refl)
   says n (w ∷ ws) k e before =
       split (Says k) (ok w) (λ h. says (suc n) ws k e.1 (one_more n w e.0 h before)) (λ h. lowest n w e.0 h before)
@@ -104,29 +96,29 @@ module _ (m : Most) (s : Settings) where
   told = says (holds m s) 21 in_order (config_of s) numbered (λ v l. absurd (omega (arith, l, (numbers_beyond v).0)))
 
   -- The setting that is named is the first wrong one.
-  pub first-wrong : (w : Setting) → checked_within m s ≡ Wrong w → FirstWrong (holds m s) w
+  pub first-wrong : (w : Setting) → checked_within m s ≡ Err w → FirstWrong (holds m s) w
   first-wrong w e = subst (Says (holds m s) (config_of s)) e told
 
   -- Where settings are accepted every test holds, and they are used as they are.
-  pub all_hold : (k : Config) → checked_within m s ≡ Fine k → ((v : Setting) → holds m s v ≡ true) × (k ≡ config_of s)
+  pub all_hold : (k : Config) → checked_within m s ≡ Ok k → ((v : Setting) → holds m s v ≡ true) × (k ≡ config_of s)
   all_hold k e = subst (Says (holds m s) (config_of s)) e told
 
   -- The first wrong one is named, whatever else is wrong.
-  pub wrong-named : (w : Setting) → FirstWrong (holds m s) w → checked_within m s ≡ Wrong w
+  pub wrong-named : (w : Setting) → FirstWrong (holds m s) w → checked_within m s ≡ Err w
   wrong-named w f = go (checked_within m s) refl
     where
-      go : (c : Checked) → checked_within m s ≡ c → checked_within m s ≡ Wrong w
-      go (Fine k) e = never (sym ((all_hold k e).0 w) ∙ f.fails)
-      go (Wrong x) e =
+      go : (c : Result Config Setting) → checked_within m s ≡ c → checked_within m s ≡ Err w
+      go (Ok k) e = never (sym ((all_hold k e).0 w) ∙ f.fails)
+      go (Err x) e =
           let g = first-wrong x e in
           let same : setting_number x ≡ setting_number w = omega (arith, g.least w f.fails, f.least x g.fails) in
-          e ∙ ap Wrong (numbers_apart x w same)
+          e ∙ ap Err (numbers_apart x w same)
 
   -- Where every test holds none is named.
-  pub none_named : ((v : Setting) → holds m s v ≡ true) → checked_within m s ≡ Fine (config_of s)
+  pub none_named : ((v : Setting) → holds m s v ≡ true) → checked_within m s ≡ Ok (config_of s)
   none_named h = go in_order
     where
-      go : (ws : List Setting) → judged (holds m s) ws (Fine (config_of s)) ≡ Fine (config_of s)
+      go : (ws : List Setting) → judged (holds m s) ws (Ok (config_of s)) ≡ Ok (config_of s)
       go [] = refl
       go (w ∷ ws) = rw (h w) (go ws)
 
@@ -147,5 +139,5 @@ module _ (m : Most) (s : Settings) where
       rw (b.0, b.1, c.0)
   permits-all h setting.Pool = let a = both (leb s.pool 4294967295) _ (h setting.Pool) in rw a.0
 
-pub permitted_too : (m : Most) (s : Settings) (k : Config) → checked_within m s ≡ Fine k → checked s ≡ Fine k
+pub permitted_too : (m : Most) (s : Settings) (k : Config) → checked_within m s ≡ Ok k → checked s ≡ Ok k
 permitted_too m s k e = let a = all_hold m s k e in rw a.1 (none_named permitted s (permits-all m s a.0))

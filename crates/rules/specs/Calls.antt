@@ -1,9 +1,7 @@
 -- "Local calls", and "Windows and pings" as far as calls. Sentences are document 01's.
-use Rattle.std.specs.Prelude.{true, false, cond, List, [], ℕ, ◌+◌, ◌-◌, min, length, take, drop, set, ltb, leb}
+use Rattle.std.specs.Prelude.{true, false, cond, List, [], ℕ, ◌+◌, ◌-◌, min, length, take, drop, set, ltb, leb, Option, Some, None}
 use Rattle.frame.specs.Header.{initial_window}
 use Rattle.rtt.specs.Pings.{next_ping}
-use Rattle.rtt.specs.declared.NextPing.{NextPing}
-use Rattle.rtt.specs.declared.NextPing.TheVariants as ask
 use Rattle.flow_control.specs.Windows.{top}
 use Rattle.stream.specs.Streams as stream
 use Rattle.stream.specs.declared.Stream.{Stream}
@@ -13,36 +11,32 @@ use Rattle.stream.specs.declared.ReadEnd.{ReadEnd}
 use Rattle.stream.specs.declared.ReadEnd.TheVariants as reading
 use Rattle.stream.specs.declared.Written.{Written}
 use Rattle.stream.specs.declared.Written.TheVariants as written
-use Rattle.stream.specs.declared.Sent.{Sent}
-use Rattle.stream.specs.declared.Sent.TheVariants.{Frame, Nothing}
 use Rattle.rules.specs.declared.Reply.{Reply}
 use Rattle.rules.specs.declared.Reply.TheVariants as reply
-use Rattle.rules.specs.declared.Which.TheVariants as which
-use Rattle.rules.specs.declared.Value.{Value}
-use Rattle.rules.specs.declared.Value.TheVariants as value
 use Rattle.rules.specs.Replies.{Outcome, no_wakes, bare}
 use Rattle.rules.specs.Lists.{Place, at, nowhere}
 use Rattle.rules.specs.State.{Entry, Conn, entry, vacant, with_slot, with_slots, with_pings, with_growth, with_next_id, with_open_wait, with_stream, find, lowest_free, listed_count, unacknowledged}
-use Rattle.rules.specs.Ending.{Result, gives, refuse, end}
+use Rattle.rules.specs.Ending.{Effect, gives, refuse, end}
 use Rattle.rules.specs.Frames.{new_entry}
+use Rattle.frame.specs.declared.header.Header.{Header}
 
 -- the answer of a call on a handle, which gives b bytes that were read
-abbrev pub on_slot : ℕ → Reply → Value → Sent → List ℕ → Outcome
-on_slot i r v h b = record { reply = r; slot = which.At (record { 0 = i }); value = v; header = h; body = []; wakes = no_wakes; bytes = b }
+abbrev pub on_slot : ℕ → Reply → Option ℕ → Option Header → List ℕ → Outcome
+on_slot i r v h b = record { reply = r; slot = Some (record { 0 = i }); value = v; header = h; body = []; wakes = no_wakes; bytes = b }
 
 -- ---- open
 
 -- "the lowest free one is taken"; 7 where "all K slots are in use"; "ids .. go by 2"
-unfoldable pub open_at : Place → Conn → ℕ → Result
+unfoldable pub open_at : Place → Conn → ℕ → Effect
 open_at nowhere c now = refuse c reply.NoSlot
 open_at (at i) c now =
     gives
-    (on_slot i reply.Done (value.Of c.next_id) Nothing [])
+    (on_slot i reply.Done (Some c.next_id) None [])
     (with_slot (with_next_id c (c.next_id + 2)) i (new_entry (stream.new_outbound (record { 0 = c.next_id }) now) []))
 
 -- "Open: table at M or more, 3; 256 or more own-parity streams Open and unacknowledged, wait; .. When next id + 2 passes 2^32-1,
 -- reply 4": in the order "3, wait, 4, 7"
-unfoldable pub open_rules : Conn → ℕ → Result
+unfoldable pub open_rules : Conn → ℕ → Effect
 open_rules c now =
     cond (leb c.config.max_num_streams (listed_count c.slots))
     (end c reply.TooManyStreams)
@@ -59,16 +53,16 @@ abbrev pub read_entry : Entry → Stream → ℕ → Entry
 read_entry e s n = record { held = e.held; listed = e.listed; stream = s; bytes = drop n e.bytes }
 
 -- "if that is 0: done with 0 in RecvClosed or Closed, else wait"
-unfoldable pub read_rest : Conn → ℕ → Entry → Updated → ℕ → ReadEnd → Result
+unfoldable pub read_rest : Conn → ℕ → Entry → Updated → ℕ → ReadEnd → Effect
 read_rest c i e u n (reading.Done s) =
     gives
-    (on_slot i reply.Done (value.Of n) u.sent (take n e.bytes))
+    (on_slot i reply.Done (Some n) u.sent (take n e.bytes))
     (with_slot (with_growth c u.growth) i (read_entry e s n))
 read_rest c i e u n (reading.Wait s) =
-    gives (on_slot i reply.Wait value.None u.sent []) (with_slot (with_growth c u.growth) i (read_entry e s n))
+    gives (on_slot i reply.Wait None u.sent []) (with_slot (with_growth c u.growth) i (read_entry e s n))
 
 -- "first the window update ..., then the oldest min(asked, unread) bytes in their order"
-unfoldable pub read_with : Conn → ℕ → Entry → ℕ → Updated → Result
+unfoldable pub read_with : Conn → ℕ → Entry → ℕ → Updated → Effect
 read_with c i e asked u =
     let n = min asked (length e.bytes) in
     read_rest c i e u n (stream.read_end u.stream n)
@@ -79,25 +73,25 @@ window_step c e now =
     stream.send_window_update e.stream (length e.bytes) now c.pings.round_trip c.config.limit c.config.max_num_streams c.growth
 
 -- "Read: ended with read-after-close off, done with 0 bytes."
-unfoldable pub read_rules : Conn → ℕ → Entry → ℕ → ℕ → Result
+unfoldable pub read_rules : Conn → ℕ → Entry → ℕ → ℕ → Effect
 read_rules c i e asked now =
     cond (cond c.ended (cond c.config.read_after_close false true) false)
-    (gives (on_slot i reply.Done (value.Of 0) Nothing []) c)
+    (gives (on_slot i reply.Done (Some 0) None []) c)
     (read_with c i e asked (window_step c e now))
 
 -- ---- write
 
 -- "a Data frame carries the first n bytes", n being the header's length and the answer's value
-unfoldable pub write_with : Conn → ℕ → Entry → List ℕ → Written → Result
+unfoldable pub write_with : Conn → ℕ → Entry → List ℕ → Written → Effect
 write_with c i e given written.Closed = refuse c reply.WriteClosed
-write_with c i e given (written.Wait s) = gives (on_slot i reply.Wait value.None Nothing []) (with_slot c i (with_stream e s))
+write_with c i e given (written.Wait s) = gives (on_slot i reply.Wait None None []) (with_slot c i (with_stream e s))
 write_with c i e given (written.Frame s h) =
     gives
     (record {
       reply = reply.Done;
-      slot = which.At (record { 0 = i });
-      value = value.Of h.length.0;
-      header = Frame h;
+      slot = Some (record { 0 = i });
+      value = Some h.length.0;
+      header = Some h;
       body = take h.length.0 given;
       wakes = no_wakes;
       bytes = [];
@@ -105,7 +99,7 @@ write_with c i e given (written.Frame s h) =
     (with_slot c i (with_stream e s))
 
 -- "Write: connection ended, or state SendClosed or Closed, 6"
-unfoldable pub write_rules : Conn → ℕ → Entry → List ℕ → Result
+unfoldable pub write_rules : Conn → ℕ → Entry → List ℕ → Effect
 write_rules c i e given =
     cond c.ended
     (refuse c reply.WriteClosed)
@@ -114,10 +108,10 @@ write_rules c i e given =
 -- ---- close
 
 -- "Close: Closed, done without a frame. Else FIN .."
-unfoldable pub close_rules : Conn → ℕ → Entry → Result
+unfoldable pub close_rules : Conn → ℕ → Entry → Effect
 close_rules c i e =
     let k = stream.close e.stream in
-    gives (on_slot i reply.Done value.None k.sent []) (with_slot c i (with_stream e k.stream))
+    gives (on_slot i reply.Done None k.sent []) (with_slot c i (with_stream e k.stream))
 
 -- ---- drop
 
@@ -134,30 +128,30 @@ removed_entry e = record { held = e.held; listed = false; stream = (stream.dropp
 
 -- "Drop: frees the slot, then removes ..": the slot's own stream where it is in the table, else a newer one of its id. The
 -- slot is freed last here, so that it is free too where the stream removed is its own.
-unfoldable pub drop_at : Place → Conn → ℕ → Result
-drop_at nowhere c i = gives (on_slot i reply.Done value.None Nothing []) (with_slot c i vacant)
+unfoldable pub drop_at : Place → Conn → ℕ → Effect
+drop_at nowhere c i = gives (on_slot i reply.Done None None []) (with_slot c i vacant)
 drop_at (at j) c i =
     let e = entry c.slots j in
     let d = stream.dropped e.stream in
     gives
-    (record { reply = reply.Done; slot = which.At (record { 0 = i }); value = value.None; header = d.sent; body = []; wakes = drop_wakes d.wakes; bytes = [] })
+    (record { reply = reply.Done; slot = Some (record { 0 = i }); value = None; header = d.sent; body = []; wakes = drop_wakes d.wakes; bytes = [] })
     (with_slots c (set (set c.slots j (removed_entry e)) i vacant))
 
 -- "A dropped handle returns its growth once."
-unfoldable pub drop_rules : Conn → ℕ → Entry → Result
+unfoldable pub drop_rules : Conn → ℕ → Entry → Effect
 drop_rules c i e = drop_at (find c.slots e.stream.id) (with_growth c (c.growth - growth_of e)) i
 
 -- ---- tick
 
 -- "no ping outstanding and due time <= now: Ping SYN with the next id .. No ping to send: done."
-unfoldable pub ping_out : NextPing → Conn → Result
-ping_out ask.None c = gives (bare reply.Done) c
-ping_out (ask.Ping h) c =
+unfoldable pub ping_out : Option Header → Conn → Effect
+ping_out None c = gives (bare reply.Done) c
+ping_out (Some h) c =
     gives
-    (record { reply = reply.Done; slot = which.None; value = value.Of h.length.0; header = Frame h; body = []; wakes = no_wakes; bytes = [] })
+    (record { reply = reply.Done; slot = None; value = Some h.length.0; header = Some h; body = []; wakes = no_wakes; bytes = [] })
     c
 
-unfoldable pub tick_rules : Conn → ℕ → Result
+unfoldable pub tick_rules : Conn → ℕ → Effect
 tick_rules c now =
     let p = next_ping c.pings now in
     ping_out p.ping (with_pings c p.rtt)

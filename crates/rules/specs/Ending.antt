@@ -6,15 +6,15 @@ use Rattle.rules.specs.Replies.{Outcome, bare, ending}
 use Rattle.rules.specs.State.{Entry, Conn}
 
 -- what a call gives, and the state that it leaves
-pub record Result : Type 0 where
+pub record Effect : Type 0 where
   pub outcome : Outcome
   pub after : Conn
 
-abbrev pub gives : Outcome → Conn → Result
+abbrev pub gives : Outcome → Conn → Effect
 gives o c = record { outcome = o; after = c }
 
 -- "nothing changed"
-abbrev pub refuse : Conn → Reply → Result
+abbrev pub refuse : Conn → Reply → Effect
 refuse c r = gives (bare r) c
 
 -- "Ending empties the table, makes each stream in it Closed, clears all waits; held handles and unread bytes stay."
@@ -38,5 +38,5 @@ ended c = record {
 }
 
 -- "connection ended"
-abbrev pub end : Conn → Reply → Result
+abbrev pub end : Conn → Reply → Effect
 end c r = gives (ending r) (ended c)

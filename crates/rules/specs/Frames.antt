@@ -1,31 +1,26 @@
 -- "Frame rules". Sentences are document 01's.
-use Rattle.std.specs.Prelude.{Bool, true, false, cond, not, List, [], ◌++◌, ℕ, ◌+◌, length, eqb, ltb, leb}
+use Rattle.std.specs.Prelude.{Bool, true, false, cond, not, List, [], ◌++◌, ℕ, ◌+◌, length, eqb, ltb, leb, Option, Some, None, Result, Ok, Err}
 use Rattle.frame.specs.Header.{contains, syn, ack, fin, rst, session, ping_header, go_away_header, with_ack, protocol_error, internal_error, initial_window}
 use Rattle.frame.specs.declared.header.Header.{Header}
 use Rattle.frame.specs.declared.header.StreamId.{StreamId}
 use Rattle.frame.specs.declared.header.Tag.{Tag}
 use Rattle.frame.specs.declared.header.Tag.TheVariants as tag
 use Rattle.rtt.specs.Pings.{handle_pong}
-use Rattle.rtt.specs.declared.Pong.{Pong}
-use Rattle.rtt.specs.declared.Pong.TheVariants.{Accepted, Unexpected}
 use Rattle.flow_control.specs.Windows.{top}
 use Rattle.stream.specs.States.{finish, is_closed}
 use Rattle.stream.specs.Streams.{new_inbound, data_taken, with_state, on_data, on_window_update, reset, acknowledged}
 use Rattle.stream.specs.declared.Stream.{Stream}
 use Rattle.stream.specs.declared.StreamWakes.{StreamWakes}
-use Rattle.stream.specs.declared.Received.{Received}
-use Rattle.stream.specs.declared.Received.TheVariants.{Taken, ProtocolError}
-use Rattle.stream.specs.declared.Sent.{Sent}
-use Rattle.stream.specs.declared.Sent.TheVariants.{Frame, Nothing}
 use Rattle.rules.specs.declared.Reply.TheVariants as reply
-use Rattle.rules.specs.declared.Which.{Which}
-use Rattle.rules.specs.declared.Which.TheVariants as which
-use Rattle.rules.specs.declared.Value.{Value}
-use Rattle.rules.specs.declared.Value.TheVariants as value
 use Rattle.rules.specs.Replies.{Outcome}
 use Rattle.rules.specs.Lists.{Place, at, nowhere}
 use Rattle.rules.specs.State.{Entry, Conn, entry, with_slot, with_pings, with_open_wait, with_stream, find, lowest_free, listed_count, room, is_remote}
-use Rattle.rules.specs.Ending.{Result, gives, refuse, end}
+use Rattle.rules.specs.Ending.{Effect, gives, refuse, end}
+use Rattle.rules.specs.declared.Slot.{Slot}
+use Rattle.rtt.specs.declared.UnexpectedPong.{UnexpectedPong}
+use Rattle.rtt.specs.declared.Rtt.{Rtt}
+use Rattle.flow_control.specs.declared.InvalidWindowUpdate.{InvalidWindowUpdate}
+use Rattle.stream.specs.declared.Woken.{Woken}
 
 -- ---- the ACK step
 
@@ -55,23 +50,23 @@ frame_wakes a w = record { reader = w.reader; writer = w.writer; opener = a.woke
 abbrev pub quiet : StreamWakes
 quiet = record { reader = false; writer = false }
 
-abbrev pub answer : Acked → Which → Value → Sent → StreamWakes → Outcome
+abbrev pub answer : Acked → Option Slot → Option ℕ → Option Header → StreamWakes → Outcome
 answer a slot v h w = record { reply = reply.Done; slot = slot; value = v; header = h; body = []; wakes = frame_wakes a w; bytes = [] }
 
 -- "done, no action"
-abbrev pub no_action : Acked → Result
-no_action a = gives (answer a which.None value.None Nothing quiet) a.conn
+abbrev pub no_action : Acked → Effect
+no_action a = gives (answer a None None None quiet) a.conn
 
 -- 2, "GoAway to send": "header with code 1 or 2; the connection goes on"
-abbrev pub go_away : Acked → ℕ → Result
+abbrev pub go_away : Acked → ℕ → Effect
 go_away a code =
     gives
-    (record { reply = reply.GoAway; slot = which.None; value = value.Of code; header = Frame (go_away_header code); body = []; wakes = frame_wakes a quiet; bytes = [] })
+    (record { reply = reply.GoAway; slot = None; value = Some code; header = Some (go_away_header code); body = []; wakes = frame_wakes a quiet; bytes = [] })
     a.conn
 
 -- "for a frame or open, the new or woken stream's": the slot is told where its reader or its writer is woken
-abbrev pub whose : StreamWakes → ℕ → Which
-whose w i = cond w.reader (which.At (record { 0 = i })) (cond w.writer (which.At (record { 0 = i })) which.None)
+abbrev pub whose : StreamWakes → ℕ → Option Slot
+whose w i = cond w.reader (Some (record { 0 = i })) (cond w.writer (Some (record { 0 = i })) None)
 
 -- ---- RST
 
@@ -79,12 +74,12 @@ whose w i = cond w.reader (which.At (record { 0 = i })) (cond w.writer (which.At
 abbrev pub reset_entry : Entry → Entry
 reset_entry e = record { held = e.held; listed = false; stream = (reset e.stream).stream; bytes = e.bytes }
 
-unfoldable pub on_reset : Acked → Place → Result
+unfoldable pub on_reset : Acked → Place → Effect
 on_reset a nowhere = no_action a
 on_reset a (at i) =
     let e = entry a.conn.slots i in
     let w = (reset e.stream).wakes in
-    gives (answer a (whose w i) value.None Nothing w) (with_slot a.conn i (reset_entry e))
+    gives (answer a (whose w i) None None w) (with_slot a.conn i (reset_entry e))
 
 -- ---- a new stream
 
@@ -93,16 +88,16 @@ new_entry s body = record { held = true; listed = true; stream = s; bytes = body
 
 -- "Seven is given exactly when the rules would make a stream and all K slots are in use; 8 exactly when the body would be
 -- queued and is longer than the room; both undo the ACK step too."
-unfoldable pub make_at : Place → Acked → Stream → List ℕ → Result
+unfoldable pub make_at : Place → Acked → Stream → List ℕ → Effect
 make_at nowhere a s body = refuse a.before reply.NoSlot
 make_at (at i) a s body =
     cond (ltb (room a.conn) (length body))
     (refuse a.before reply.NoRoom)
     (gives
-    (answer a (which.At (record { 0 = i })) (value.Of s.id.0) Nothing quiet)
+    (answer a (Some (record { 0 = i })) (Some s.id.0) None quiet)
     (with_slot a.conn i (new_entry s body)))
 
-unfoldable pub make : Acked → Stream → List ℕ → Result
+unfoldable pub make : Acked → Stream → List ℕ → Effect
 make a s body = make_at (lowest_free a.conn.slots) a s body
 
 abbrev pub is_known : Place → Bool
@@ -111,7 +106,7 @@ is_known nowhere = false
 
 -- "id of the wrong parity, 2 with code 1; id in the table, code 1; M streams in the table, code 2 .. WindowUpdate: the same
 -- but M full is code 1". M is tested as M or more (reading A11).
-unfoldable pub syn_rules : Acked → StreamId → Place → ℕ → Result → Result
+unfoldable pub syn_rules : Acked → StreamId → Place → ℕ → Effect → Effect
 syn_rules a id place full next =
     cond (is_remote a.conn.config.mode id)
     (cond (is_known place)
@@ -122,7 +117,7 @@ syn_rules a id place full next =
     (go_away a protocol_error)
 
 -- "body above 262,144, code 1"; "FIN makes it RecvClosed; a body is taken from its receive window and queued"
-unfoldable pub syn_data : Acked → Header → List ℕ → Place → ℕ → Result
+unfoldable pub syn_data : Acked → Header → List ℕ → Place → ℕ → Effect
 syn_data a h body place now =
     syn_rules a h.stream_id place internal_error
     (cond (ltb initial_window (length body))
@@ -137,7 +132,7 @@ opened_by h now =
     with_state s (finish (contains h.flags fin) s.state)
 
 -- "WindowUpdate: the same but M full is code 1, and the last test is credit + 262,144 above 2^32-1, code 1."
-unfoldable pub syn_update : Acked → Header → Place → ℕ → Result
+unfoldable pub syn_update : Acked → Header → Place → ℕ → Effect
 syn_update a h place now =
     syn_rules a h.stream_id place protocol_error
     (cond (ltb top (h.length.0 + initial_window))
@@ -158,33 +153,33 @@ taken_entry e s finished body = record {
 -- "Known, Data: body above the receive window, code 1. Else the window falls by the body; then FIN .., body queued, reader
 -- woken." "WindowUpdate: send window past 2^32-1, code 1; else credit added, FIN (waking the reader), writer woken." "8 exactly when
 -- the body would be queued and is longer than the room; both undo the ACK step too."
-unfoldable pub take_at : ℕ → Acked → Header → List ℕ → Received → Result
-take_at i a h body ProtocolError = go_away a protocol_error
-take_at i a h body (Taken s w) =
+unfoldable pub take_at : ℕ → Acked → Header → List ℕ → Result Woken InvalidWindowUpdate → Effect
+take_at i a h body (Err _) = go_away a protocol_error
+take_at i a h body (Ok k) =
     cond (ltb (room a.conn) (length body))
     (refuse a.before reply.NoRoom)
     (gives
-    (answer a (whose w i) value.None Nothing w)
-    (with_slot a.conn i (taken_entry (entry a.conn.slots i) s (contains h.flags fin) body)))
+    (answer a (whose k.wakes i) None None k.wakes)
+    (with_slot a.conn i (taken_entry (entry a.conn.slots i) k.stream (contains h.flags fin) body)))
 
-unfoldable pub known_data : Acked → Header → List ℕ → Place → Result
+unfoldable pub known_data : Acked → Header → List ℕ → Place → Effect
 known_data a h body nowhere = no_action a
 known_data a h body (at i) = take_at i a h body (on_data (entry a.conn.slots i).stream (length body) (contains h.flags fin))
 
-unfoldable pub known_update : Acked → Header → Place → Result
+unfoldable pub known_update : Acked → Header → Place → Effect
 known_update a h nowhere = no_action a
 known_update a h (at i) =
     take_at i a h [] (on_window_update (entry a.conn.slots i).stream (record { 0 = h.length.0 }) (contains h.flags fin))
 
 -- ---- each type
 
-unfoldable pub data_rules : Acked → Header → List ℕ → Place → ℕ → Result
+unfoldable pub data_rules : Acked → Header → List ℕ → Place → ℕ → Effect
 data_rules a h body place now =
     cond (contains h.flags rst)
     (on_reset a place)
     (cond (contains h.flags syn) (syn_data a h body place now) (known_data a h body place))
 
-unfoldable pub update_rules : Acked → Header → Place → ℕ → Result
+unfoldable pub update_rules : Acked → Header → Place → ℕ → Effect
 update_rules a h place now =
     cond (contains h.flags rst)
     (on_reset a place)
@@ -195,24 +190,24 @@ abbrev pub unacked : Conn → Acked
 unacked c = record { before = c; conn = c; woke = false }
 
 -- "A pong not awaited or of another id: code 1."
-unfoldable pub pong_rules : Conn → Pong → Result
-pong_rules c Unexpected = go_away (unacked c) protocol_error
-pong_rules c (Accepted p) = no_action (unacked (with_pings c p))
+unfoldable pub pong_rules : Conn → Result Rtt UnexpectedPong → Effect
+pong_rules c (Err _) = go_away (unacked c) protocol_error
+pong_rules c (Ok p) = no_action (unacked (with_pings c p))
 
 -- "Ping with ACK: see below. Else, id 0 or in the table: Ping ACK, same value, stream 0; other ids: nothing."
 abbrev pub answers_ping : Conn → StreamId → Bool
 answers_ping c id = cond (session id) true (is_known (find c.slots id))
 
-unfoldable pub ping_rules : Conn → Header → ℕ → Result
+unfoldable pub ping_rules : Conn → Header → ℕ → Effect
 ping_rules c h now =
     cond (contains h.flags ack)
     (pong_rules c (handle_pong c.pings h.length.0 now c.config.interval))
     (cond (answers_ping c h.stream_id)
-    (gives (answer (unacked c) which.None (value.Of h.length.0) (Frame (with_ack (ping_header h.length.0))) quiet) c)
+    (gives (answer (unacked c) None (Some h.length.0) (Some (with_ack (ping_header h.length.0))) quiet) c)
     (no_action (unacked c)))
 
 -- "GoAway: 5."
-unfoldable pub frame_rules : Tag → Conn → Header → List ℕ → Place → ℕ → Result
+unfoldable pub frame_rules : Tag → Conn → Header → List ℕ → Place → ℕ → Effect
 frame_rules tag.Data c h body place now = data_rules (ack_step c h place) h body place now
 frame_rules tag.WindowUpdate c h body place now = update_rules (ack_step c h place) h place now
 frame_rules tag.Ping c h body place now = ping_rules c h now
@@ -225,7 +220,7 @@ body_length tag.WindowUpdate n = 0
 body_length tag.Ping n = 0
 body_length tag.GoAway n = 0
 
-unfoldable pub on_header : Conn → Header → List ℕ → ℕ → Result
+unfoldable pub on_header : Conn → Header → List ℕ → ℕ → Effect
 on_header c h body now =
     cond (eqb (length body) (body_length h.tag h.length.0))
     (frame_rules h.tag c h body (find c.slots h.stream_id) now)

@@ -1,14 +1,10 @@
 -- "Numbered replies": the number of each, and what an answer carries.
-use Rattle.std.specs.Prelude.{Bool, true, false, List, [], ℕ}
-use Rattle.stream.specs.declared.Sent.{Sent}
-use Rattle.stream.specs.declared.Sent.TheVariants.{Nothing}
+use Rattle.std.specs.Prelude.{Bool, true, false, List, [], ℕ, Option, Some, None}
 use Rattle.rules.specs.declared.Reply.{Reply}
 use Rattle.rules.specs.declared.Reply.TheVariants as reply
-use Rattle.rules.specs.declared.Which.{Which}
-use Rattle.rules.specs.declared.Which.TheVariants as which
-use Rattle.rules.specs.declared.Value.{Value}
-use Rattle.rules.specs.declared.Value.TheVariants as value
 use Rattle.rules.specs.declared.Woke.{Woke}
+use Rattle.rules.specs.declared.Slot.{Slot}
+use Rattle.frame.specs.declared.header.Header.{Header}
 
 abbrev pub number : Reply → ℕ
 number reply.Done = 0
@@ -28,9 +24,9 @@ number reply.Body = 13
 number reply.Size = 14
 
 -- How many bytes a read's value counts: none at reply 1, where it is `-`. Contracts and theorems ask it, no rule does.
-abbrev pub count_of : Value → ℕ
-count_of (value.Of n) = n
-count_of value.None = 0
+abbrev pub count_of : Option ℕ → ℕ
+count_of (Some n) = n
+count_of None = 0
 
 -- "nothing changed": the replies 6 to 10, 13 and 14. Contracts and theorems ask it, no rule does.
 abbrev pub leaves_all : Reply → Bool
@@ -72,9 +68,9 @@ may_give reply.Size = false
 -- with it (the caller's own bytes), who is woken, and the bytes read.
 pub record Outcome : Type 0 where
   pub reply : Reply
-  pub slot : Which
-  pub value : Value
-  pub header : Sent
+  pub slot : Option Slot
+  pub value : Option ℕ
+  pub header : Option Header
   pub body : List ℕ
   pub wakes : Woke
   pub bytes : List ℕ
@@ -84,15 +80,15 @@ no_wakes = record { reader = false; writer = false; opener = false; all = false 
 
 -- an answer of the reply alone: a refusal
 abbrev pub bare : Reply → Outcome
-bare r = record { reply = r; slot = which.None; value = value.None; header = Nothing; body = []; wakes = no_wakes; bytes = [] }
+bare r = record { reply = r; slot = None; value = None; header = None; body = []; wakes = no_wakes; bytes = [] }
 
 -- "only a when this event ended the connection"
 abbrev pub ending : Reply → Outcome
 ending r = record {
   reply = r;
-  slot = which.None;
-  value = value.None;
-  header = Nothing;
+  slot = None;
+  value = None;
+  header = None;
   body = [];
   wakes = record { reader = false; writer = false; opener = false; all = true };
   bytes = [];

@@ -1,5 +1,5 @@
 -- "Settings", and the number of each (request M-100). Other sentences are document 01's.
-use Rattle.std.specs.Prelude.{◌≡◌, Bool, false, cond, List, [], ◌∷◌, ℕ, ◌*◌, ◌≤◌, leb, eqb}
+use Rattle.std.specs.Prelude.{◌≡◌, Bool, false, cond, List, [], ◌∷◌, ℕ, ◌*◌, ◌≤◌, leb, eqb, Result, Ok, Err}
 use Rattle.frame.specs.Header.{initial_window}
 use Rattle.rules.specs.declared.Settings.{Settings}
 use Rattle.rules.specs.declared.Most.{Most}
@@ -8,8 +8,6 @@ use Rattle.rules.specs.declared.Mode.{Mode}
 use Rattle.rules.specs.declared.Mode.TheVariants.{Client, Server}
 use Rattle.rules.specs.declared.Setting.{Setting}
 use Rattle.rules.specs.declared.Setting.TheVariants as setting
-use Rattle.rules.specs.declared.Checked.{Checked}
-use Rattle.rules.specs.declared.Checked.TheVariants.{Fine, Wrong}
 
 -- "Times are nanoseconds, 0..2^62-1."
 abbrev pub last_time : ℕ
@@ -66,9 +64,9 @@ setting_number setting.Slots = 29
 setting_number setting.Pool = 30
 
 -- M-100: "first wrong one given", of these; else what comes after them
-abbrev pub judged : (Setting → Bool) → List Setting → Checked → Checked
+abbrev pub judged : (Setting → Bool) → List Setting → Result Config Setting → Result Config Setting
 judged ok [] next = next
-judged ok (w ∷ ws) next = cond (ok w) (judged ok ws next) (Wrong w)
+judged ok (w ∷ ws) next = cond (ok w) (judged ok ws next) (Err w)
 
 -- the last four, and all ten, in the order in which they are read
 abbrev pub last_four : List Setting
@@ -77,14 +75,14 @@ last_four = setting.FirstTime ∷ setting.FirstId ∷ setting.Slots ∷ setting.
 abbrev pub in_order : List Setting
 in_order = setting.Mode ∷ setting.Streams ∷ setting.Limit ∷ setting.ReadAfterClose ∷ setting.Split ∷ setting.Interval ∷ last_four
 
-abbrev pub checked_within : Most → Settings → Checked
-checked_within m s = judged (holds m s) in_order (Fine (config_of s))
+abbrev pub checked_within : Most → Settings → Result Config Setting
+checked_within m s = judged (holds m s) in_order (Ok (config_of s))
 
 -- a connection permits what document 01 does
 abbrev pub permitted : Most
 permitted = record { slots = 1024; pool = 4294967295 }
 
-abbrev pub checked : Settings → Checked
+abbrev pub checked : Settings → Result Config Setting
 checked s = checked_within permitted s
 
 -- What the answer says of any ten numbers (proved): the setting named is the one of the least number among those whose test fails.

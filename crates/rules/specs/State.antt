@@ -1,5 +1,5 @@
 -- The connection's state, and its slots. Sentences are document 01's.
-use Rattle.std.specs.Prelude.{Bool, true, false, cond, List, [], ℕ, ◌-◌, length, get_or, set, replicate, eqb}
+use Rattle.std.specs.Prelude.{Bool, true, false, cond, List, [], ℕ, ◌-◌, length, get_or, set, replicate, eqb, Option, Some, None}
 use Rattle.frame.specs.Header.{session_id, client, server}
 use Rattle.frame.specs.declared.header.StreamId.{StreamId}
 use Rattle.rtt.specs.Pings.{start}
@@ -11,8 +11,7 @@ use Rattle.rules.specs.Lists.{Place, at, nowhere, first, sum}
 use Rattle.rules.specs.declared.Config.{Config}
 use Rattle.rules.specs.declared.Mode.{Mode}
 use Rattle.rules.specs.declared.Mode.TheVariants.{Client, Server}
-use Rattle.rules.specs.declared.Which.{Which}
-use Rattle.rules.specs.declared.Which.TheVariants as which
+use Rattle.rules.specs.declared.Slot.{Slot}
 
 -- A slot: whether its handle is held, whether its stream is in the table, the stream, and the bytes not read yet.
 pub record Entry : Type 0 where
@@ -138,9 +137,9 @@ abbrev pub lowest_free : List Entry → Place
 lowest_free es = first is_free es
 
 -- a place as the code has it: a slot, or none
-abbrev pub found_of : Place → Which
-found_of (at i) = which.At (record { 0 = i })
-found_of nowhere = which.None
+abbrev pub found_of : Place → Option Slot
+found_of (at i) = Some (record { 0 = i })
+found_of nowhere = None
 
 -- the streams in the table
 abbrev pub listed_count : List Entry → ℕ

@@ -1,15 +1,14 @@
 // The connection's settings, calls and replies: what the rules of document 01 speak of.
 #![tactic(auto)]
 
-ghost use Rattle.std.specs.Prelude.{◌≡◌, ◌≤◌};
+ghost use Rattle.std.specs.Prelude.{◌≡◌, ◌≤◌, cond};
 ghost use Rattle.rules.specs.Settings.{checked, checked_within, config_of, holds, judged, last_four, mode_of, setting_number};
-ghost use Rattle.rules.specs.declared.Checked.TheVariants.{Fine};
-ghost use Rattle.rules.specs.Replies.{number, count_of};
+ghost use Rattle.rules.specs.Replies.{number};
 
 use frame::header::DEFAULT_CREDIT;
 
 // The ten numbers of a connection as they are typed.
-#[derive(Clone, Copy)]
+#[derive(Clone, Copy, Debug, PartialEq, Eq)]
 pub struct Settings {
     pub mode: u64,
     pub max_num_streams: u64,
@@ -23,14 +22,14 @@ pub struct Settings {
     pub pool: u64,
 }
 
-#[derive(Clone, Copy)]
+#[derive(Clone, Copy, Debug, PartialEq, Eq)]
 pub enum Mode {
     Client,
     Server,
 }
 
 // Settings that are in range.
-#[derive(Clone, Copy)]
+#[derive(Clone, Copy, Debug, PartialEq, Eq)]
 pub struct Config {
     pub mode: Mode,
     pub max_num_streams: u32,
@@ -45,14 +44,14 @@ pub struct Config {
 }
 
 // The most slots and bytes of pool that a program permits, beside the bounds of every connection.
-#[derive(Clone, Copy)]
+#[derive(Clone, Copy, Debug, PartialEq, Eq)]
 pub struct Most {
     pub slots: u64,
     pub pool: u64,
 }
 
 // The settings in the order in which they are read.
-#[derive(Clone, Copy)]
+#[derive(Clone, Copy, Debug, PartialEq, Eq)]
 pub enum Setting {
     Mode,
     Streams,
@@ -66,18 +65,12 @@ pub enum Setting {
     Pool,
 }
 
-#[derive(Clone, Copy)]
-pub enum Checked {
-    Fine(Config),
-    Wrong(Setting),
-}
-
 // The number of a slot, which is what a handle is.
-#[derive(Clone, Copy)]
+#[derive(Clone, Copy, Debug, PartialEq, Eq)]
 pub struct Slot(pub u32);
 
 // The numbered replies.
-#[derive(Clone, Copy)]
+#[derive(Clone, Copy, Debug, PartialEq, Eq)]
 pub enum Reply {
     Done,
     Wait,
@@ -96,28 +89,22 @@ pub enum Reply {
     Size,
 }
 
-// The slot that an answer speaks of.
-#[derive(Clone, Copy)]
-pub enum Which {
-    At(Slot),
-    None,
-}
-
-// The number that an answer carries: a new id, a count of bytes, a ping's id or a GoAway code.
-#[derive(Clone, Copy)]
-pub enum Value {
-    Of(u32),
-    None,
-}
-
 // Who waited and waits no more; `all` where the connection ended.
-#[derive(Clone, Copy)]
+#[derive(Clone, Copy, Debug, PartialEq, Eq)]
 pub struct Woke {
     pub reader: bool,
     pub writer: bool,
     pub opener: bool,
     pub all: bool,
 }
+
+// Nobody waited.
+pub const NOBODY: Woke = Woke {
+    reader: false,
+    writer: false,
+    opener: false,
+    all: false,
+};
 
 // Times are nanoseconds, 0..2^62-1.
 pub const LAST_TIME: u64 = 4611686018427387903;
@@ -128,6 +115,14 @@ const TOP: u64 = u32::MAX as u64;
 // As many slots as a connection may have.
 const MOST_SLOTS: u64 = 1024;
 
+// Refuses a setting that fails its test.
+fn demand(holds: bool, setting: Setting) -> Result<(), Setting>
+    ensures { result ≡ cond holds (Ok tt) (Err setting) }
+{
+    if holds { Ok(()) } else { Err(setting) }
+}
+
+// Not TryFrom: a number above 1 is refused before, as the first wrong setting.
 fn mode_of(n: u64) -> Mode
     ensures { result ≡ mode_of n }
 {
@@ -136,45 +131,41 @@ fn mode_of(n: u64) -> Mode
 
 impl Settings {
     // The settings as they are used, or the first of them, in the order in which they are read, that is wrong.
-    pub fn check(self) -> Checked
+    pub fn check(self) -> Result<Config, Setting>
         ensures { result ≡ checked self }
     {
-        let most = Most {
+        self.check_within(Most {
             slots: MOST_SLOTS,
             pool: TOP,
-        };
-        self.check_within(most)
+        })
     }
 
     // The same, of a program that permits no more than this.
-    pub fn check_within(self, most: Most) -> Checked
+    pub fn check_within(self, most: Most) -> Result<Config, Setting>
         ensures { result ≡ checked_within most self }
     {
-        if 1 < self.mode {
-            return Checked::Wrong(Setting::Mode);
-        }
-        if 512 < self.max_num_streams {
-            return Checked::Wrong(Setting::Streams);
-        }
-        if self.limit < self.max_num_streams * (DEFAULT_CREDIT as u64) {
-            return Checked::Wrong(Setting::Limit);
-        }
-        if 1 < self.read_after_close {
-            return Checked::Wrong(Setting::ReadAfterClose);
-        }
-        if self.split < 1 {
-            return Checked::Wrong(Setting::Split);
-        }
-        if TOP < self.split {
-            return Checked::Wrong(Setting::Split);
-        }
-        if self.interval < 1 {
-            return Checked::Wrong(Setting::Interval);
-        }
-        if LAST_TIME < self.interval {
-            return Checked::Wrong(Setting::Interval);
-        }
+        demand(self.mode <= 1, Setting::Mode)?;
+        demand(self.max_num_streams <= 512, Setting::Streams)?;
+        let sure = self.max_num_streams * u64::from(DEFAULT_CREDIT);
+        demand(sure <= self.limit, Setting::Limit)?;
+        demand(self.read_after_close <= 1, Setting::ReadAfterClose)?;
+        demand(1 <= self.split && self.split <= TOP, Setting::Split)?;
+        let interval = 1 <= self.interval && self.interval <= LAST_TIME;
+        demand(interval, Setting::Interval)?;
         self.check_last(most)
+    }
+
+    fn check_last(self, most: Most) -> Result<Config, Setting>
+        requires { (self.max_num_streams ≤ 512) × (self.split ≤ 4294967295) }
+        ensures { result ≡ judged (holds most self) last_four (Ok (config_of self)) }
+    {
+        demand(self.first_time <= LAST_TIME, Setting::FirstTime)?;
+        demand(self.first_id <= TOP, Setting::FirstId)?;
+        let some = 1 <= self.slots && self.slots <= MOST_SLOTS;
+        let enough = self.max_num_streams <= self.slots && self.slots <= most.slots;
+        demand(some && enough, Setting::Slots)?;
+        demand(self.pool <= TOP && self.pool <= most.pool, Setting::Pool)?;
+        Ok(self.config())
     }
 
     // The settings as the connection uses them.
@@ -182,9 +173,8 @@ impl Settings {
         requires { (self.max_num_streams ≤ 512) × (self.split ≤ 4294967295) × (self.first_id ≤ 4294967295) × (self.slots ≤ 1024) × (self.pool ≤ 4294967295) }
         ensures { result ≡ config_of self }
     {
-        let mode = mode_of(self.mode);
         Config {
-            mode,
+            mode: mode_of(self.mode),
             max_num_streams: self.max_num_streams as u32,
             limit: self.limit,
             read_after_close: self.read_after_close == 1,
@@ -196,47 +186,14 @@ impl Settings {
             pool: self.pool as u32,
         }
     }
-
-    fn check_last(self, most: Most) -> Checked
-        requires { (self.max_num_streams ≤ 512) × (self.split ≤ 4294967295) }
-        ensures { result ≡ judged (holds most self) last_four (Fine (config_of self)) }
-    {
-        let slots = most.slots;
-        let pool = most.pool;
-        if LAST_TIME < self.first_time {
-            return Checked::Wrong(Setting::FirstTime);
-        }
-        if TOP < self.first_id {
-            return Checked::Wrong(Setting::FirstId);
-        }
-        if self.slots < 1 {
-            return Checked::Wrong(Setting::Slots);
-        }
-        if MOST_SLOTS < self.slots {
-            return Checked::Wrong(Setting::Slots);
-        }
-        if self.slots < self.max_num_streams {
-            return Checked::Wrong(Setting::Slots);
-        }
-        if slots < self.slots {
-            return Checked::Wrong(Setting::Slots);
-        }
-        if TOP < self.pool {
-            return Checked::Wrong(Setting::Pool);
-        }
-        if pool < self.pool {
-            return Checked::Wrong(Setting::Pool);
-        }
-        Checked::Fine(self.config())
-    }
 }
 
-impl Setting {
-    // The number of the reply where this setting is the first wrong one.
-    pub fn number(self) -> u32
-        ensures { result ≡ setting_number self }
-    {
-        match self {
+// The number of the reply where this setting is the first wrong one.
+impl From<Setting> for u32 {
+    ghost from_gives = { λ setting n. n ≡ setting_number setting };
+
+    fn from(setting: Setting) -> u32 {
+        match setting {
             Setting::Mode => 21,
             Setting::Streams => 22,
             Setting::Limit => 23,
@@ -251,11 +208,11 @@ impl Setting {
     }
 }
 
-impl Reply {
-    pub fn number(self) -> u32
-        ensures { result ≡ number self }
-    {
-        match self {
+impl From<Reply> for u32 {
+    ghost from_gives = { λ reply n. n ≡ number reply };
+
+    fn from(reply: Reply) -> u32 {
+        match reply {
             Reply::Done => 0,
             Reply::Wait => 1,
             Reply::GoAway => 2,
@@ -271,18 +228,6 @@ impl Reply {
             Reply::Type => 12,
             Reply::Body => 13,
             Reply::Size => 14,
-        }
-    }
-}
-
-impl Value {
-    // How many bytes the value of a read counts.
-    pub fn count(self) -> u32
-        ensures { result ≡ count_of self }
-    {
-        match self {
-            Value::Of(n) => n,
-            Value::None => 0,
         }
     }
 }

@@ -1,14 +1,12 @@
 -- A close by whether the stream is Closed. Assumes nothing.
-use mathlib.Core.Path.{◌≡◌, refl}
-use mathlib.Core.Bool.{true, false}
+use Rattle.std.proofs.Common.{None, ◌≡◌, refl, true, false}
 use Rattle.stream.specs.States.{is_closed}
 use Rattle.stream.specs.Streams.{close_in, close_taken}
 use Rattle.stream.specs.declared.State.{State}
 use Rattle.stream.specs.declared.State.TheVariants.{Open, SendClosed, RecvClosed, Closed}
 use Rattle.stream.specs.declared.Stream.{Stream}
-use Rattle.stream.specs.declared.Sent.TheVariants.{Nothing}
 
-pub once : (t : State) (s : Stream) → is_closed t ≡ true → close_in t s ≡ record { stream = s; sent = Nothing }
+pub once : (t : State) (s : Stream) → is_closed t ≡ true → close_in t s ≡ record { stream = s; sent = None }
 once (Open a) s h = cc
 once SendClosed s h = cc
 once RecvClosed s h = cc

@@ -1,28 +1,22 @@
 -- The proved examples of document 01 that speak of one stream: each row is what the definitions give and what the document says.
 -- Assumes nothing.
-use mathlib.Core.Path.{◌≡◌, refl}
-use mathlib.Core.Bool.{Bool, true, false, cond}
-use mathlib.Core.List.{List, [], ◌∷◌}
-use Prim.Native.Nat.{ℕ}
-use lib.Dec.{eqb}
-use Rattle.rtt.specs.declared.RoundTrip.TheVariants.{Known}
-use Rattle.flow_control.specs.Windows.{credit, fresh, next_window_update, with_receive}
-use Rattle.flow_control.specs.declared.Moved.{Moved}
+use Rattle.std.proofs.Common.{Some, Result, Ok, Err, ◌≡◌, refl, Bool, true, false, cond, List, [], ◌∷◌, ℕ, eqb}
+use Rattle.flow_control.specs.Windows.{credit, fresh, next_window_update, with_receive, Moved}
 use Rattle.flow_control.proofs.Laws.{credit_of}
 use Rattle.stream.specs.Streams.{new_inbound, on_window_update}
-use Rattle.stream.specs.declared.Received.{Received}
-use Rattle.stream.specs.declared.Received.TheVariants.{Taken, ProtocolError}
+use Rattle.stream.specs.declared.Woken.{Woken}
+use Rattle.flow_control.specs.declared.InvalidWindowUpdate.{InvalidWindowUpdate}
 
 -- the window step of a new stream, noted at 0, with nothing unread, a round trip of 50 and a limit of 1,048,576 for one stream
 step : ℕ → ℕ → Moved
 step window now =
     next_window_update (with_receive (fresh 262144 0) window)
-    (record { unread = 0; time = now; round_trip = Known 50; limit = 1048576; max_num_streams = 1; growth = 0 })
+    (record { unread = 0; time = now; round_trip = Some 50; limit = 1048576; max_num_streams = 1; growth = 0 })
 
 -- the send window of a new inbound stream after a credit; 0 for code 1
-send_after : Received → ℕ
-send_after (Taken s w) = s.flow.send_window
-send_after ProtocolError = 0
+send_after : Result Woken InvalidWindowUpdate → ℕ
+send_after (Ok w) = w.stream.flow.send_window
+send_after (Err e) = 0
 
 syn : ℕ → ℕ
 syn c = send_after (on_window_update (new_inbound (record { 0 = 2 }) 262144 0) (credit c) false)

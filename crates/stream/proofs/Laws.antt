@@ -1,90 +1,41 @@
 -- What each rule leaves in a stream's id, windows and maximum. Assumes nothing.
-use mathlib.Core.Path.{◌≡◌, refl}
-use mathlib.Core.Bool.{Bool, true, false, cond}
-use Prim.Native.Nat.{ℕ, ◌+◌, ◌-◌, ◌<◌, ◌≤◌}
-use lib.Dec.{leb, eqb}
-use borrow.Author.Tests.{leb-true, leb-false, eqb-true, eqb-false}
-use native.Mathlib.Omega.{arith}
+use Rattle.std.proofs.Common.{Option, Some, None, ◌≡◌, refl, Bool, true, false, cond, ℕ, ◌+◌, ◌-◌, ◌<◌, eqb, eqb-true, arith}
+use borrow.Author.Tests.{eqb-false}
 use Rattle.frame.specs.Header.{data_header, window_update_header}
 use Rattle.frame.specs.declared.header.Credit.{Credit}
 use Rattle.frame.specs.declared.header.Header.{Header}
 use Rattle.frame.specs.declared.header.StreamId.{StreamId}
-use Rattle.flow_control.specs.Windows.{top, next_window_update, with_send}
+use Rattle.flow_control.specs.Windows.{next_window_update, with_send}
 use Rattle.flow_control.specs.declared.Conditions.{Conditions}
-use Rattle.flow_control.specs.declared.Update.{Update}
-use Rattle.flow_control.specs.declared.Update.TheVariants as update
 use Rattle.flow_control.proofs.Laws.{Steps, credit_of, credited, steps, still}
 use Rattle.stream.specs.States.{can_read, can_write, acknowledge}
-use Rattle.stream.specs.Streams.{wakes, with_waits, data_taken, on_data, update_taken, on_window_update}
+use Rattle.stream.specs.Streams.{with_waits}
 use Rattle.stream.specs.Streams.{update_frame, step_taken, send_window_update}
 use Rattle.stream.specs.Streams.{write_count, write, close_in, close, add_flag, owes_ack}
+use Rattle.flow_control.specs.declared.Due.{Due}
 use Rattle.stream.specs.declared.State.{State}
 use Rattle.stream.specs.declared.State.TheVariants.{Open, SendClosed, RecvClosed, Closed}
 use Rattle.stream.specs.declared.Flag.{Flag}
 use Rattle.stream.specs.declared.Flag.TheVariants as owed
 use Rattle.stream.specs.declared.Stream.{Stream}
-use Rattle.stream.specs.declared.StreamWakes.{StreamWakes}
-use Rattle.stream.specs.declared.Received.TheVariants.{Taken, ProtocolError}
-use Rattle.stream.specs.declared.Sent.{Sent}
-use Rattle.stream.specs.declared.Sent.TheVariants.{Frame, Nothing}
-use Rattle.stream.specs.declared.Step.TheVariants.{Skipped}
 use Rattle.stream.specs.declared.Updated.{Updated}
 use Rattle.stream.specs.declared.Written.TheVariants as written
-
--- ---- frames received
-
-either_taken :
-    (b : Bool) (s t : Stream) (v w : StreamWakes) → cond b (Taken s v) ProtocolError ≡ Taken t w →
-    (b ≡ true) × (t ≡ s) × (w ≡ v)
-either_taken true s t v w e = (refl, cc, cc)
-either_taken false s t v w e = (cc, cc, cc)
-
-either_error : (b : Bool) (s : Stream) (v : StreamWakes) → cond b (Taken s v) ProtocolError ≡ ProtocolError → b ≡ false
-either_error true s v e = cc
-either_error false s v e = refl
-
-module _ (s : Stream) (n : ℕ) (fin : Bool) where
-  -- a body that is taken fits the receive window
-  pub data-taken :
-      (t : Stream) (w : StreamWakes) → on_data s n fin ≡ Taken t w →
-      (n ≤ s.flow.receive_window) × (t ≡ data_taken s n fin) × (w ≡ wakes s.reader false)
-  data-taken t w e =
-      let h = either_taken (leb n s.flow.receive_window) (data_taken s n fin) t (wakes s.reader false) w e in
-      (leb-true _ _ h.0, h.1, h.2)
-
-  pub data-refused : on_data s n fin ≡ ProtocolError → s.flow.receive_window < n
-  data-refused e = leb-false _ _ (either_error (leb n s.flow.receive_window) (data_taken s n fin) (wakes s.reader false) e)
-
-module _ (s : Stream) (c : Credit) (fin : Bool) where
-  -- a credit that is taken leaves a send window of 32 bits
-  pub update-taken :
-      (t : Stream) (w : StreamWakes) → on_window_update s c fin ≡ Taken t w →
-      (s.flow.send_window + c.0 ≤ top) × (t ≡ update_taken s c fin) × (w ≡ wakes (cond fin s.reader false) s.writer)
-  update-taken t w e =
-      let v = wakes (cond fin s.reader false) s.writer in
-      let h = either_taken (leb (s.flow.send_window + c.0) top) (update_taken s c fin) t v w e in
-      (leb-true _ _ h.0, h.1, h.2)
-
-  pub update-refused : on_window_update s c fin ≡ ProtocolError → top < s.flow.send_window + c.0
-  update-refused e =
-      leb-false _ _
-      (either_error (leb (s.flow.send_window + c.0) top) (update_taken s c fin) (wakes (cond fin s.reader false) s.writer) e)
 
 -- ---- read
 
 -- the bytes that a frame grants
-abbrev pub credit_sent : Sent → ℕ
-credit_sent Nothing = 0
-credit_sent (Frame h) = h.length.0
+abbrev pub credit_sent : Option Header → ℕ
+credit_sent None = 0
+credit_sent (Some h) = h.length.0
 
 flagged-credit : (f : Flag) (id : StreamId) (c : Credit) → (add_flag f (window_update_header id c)).length.0 ≡ c.0
 flagged-credit owed.None id c = refl
 flagged-credit owed.Syn id c = refl
 flagged-credit owed.Ack id c = refl
 
-frame_credit : (s : Stream) (u : Update) → credit_sent (update_frame s u) ≡ credit_of u
-frame_credit s update.NotDue = refl
-frame_credit s (update.Due why c) = flagged-credit s.flag s.id c
+frame_credit : (s : Stream) (u : Option Due) → credit_sent (update_frame s u) ≡ credit_of u
+frame_credit s None = refl
+frame_credit s (Some d) = flagged-credit s.flag s.id d.credit
 
 -- all but the flag owed and the windows stays, and the laws of the window step hold of the stream's windows
 pub record Kept (s : Stream) (c : Conditions) (u : Updated) : Type 0 where
@@ -99,7 +50,7 @@ module _ (s : Stream) (c : Conditions) where
   outcome b =
       cond b
       (step_taken s (next_window_update s.flow c))
-      (record { stream = s; growth = c.growth; step = Skipped; sent = Nothing })
+      (record { stream = s; growth = c.growth; step = None; sent = None })
 
   abbrev taken : Updated
   taken = send_window_update s c.unread c.time c.round_trip c.limit c.max_num_streams c.growth

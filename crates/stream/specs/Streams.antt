@@ -1,15 +1,13 @@
 -- One stream's part of each rule. Sentences are document 01's.
-use Rattle.std.specs.Prelude.{Bool, true, false, cond, ℕ, ◌+◌, ◌-◌, min, eqb, leb}
+use Rattle.std.specs.Prelude.{Bool, true, false, cond, ℕ, ◌+◌, ◌-◌, min, eqb, leb, Option, Some, None, Result, Ok, Err}
 use Rattle.frame.specs.Header.{data_header, window_update_header, with_syn, with_ack, with_fin, with_rst, close_stream, initial_window}
 use Rattle.frame.specs.declared.header.Header.{Header}
 use Rattle.frame.specs.declared.header.StreamId.{StreamId}
 use Rattle.frame.specs.declared.header.Credit.{Credit}
 use Rattle.frame.specs.declared.header.Len.{Len}
-use Rattle.rtt.specs.declared.RoundTrip.{RoundTrip}
-use Rattle.flow_control.specs.Windows.{top, fresh, next_window_update, with_send, with_receive}
-use Rattle.flow_control.specs.declared.Moved.{Moved}
-use Rattle.flow_control.specs.declared.Update.{Update}
-use Rattle.flow_control.specs.declared.Update.TheVariants as update
+use Rattle.flow_control.specs.Windows.{top, fresh, next_window_update, with_send, with_receive, Moved}
+use Rattle.flow_control.specs.declared.Due.{Due}
+use Rattle.flow_control.specs.declared.InvalidWindowUpdate.{InvalidWindowUpdate}
 use Rattle.stream.specs.States.{change, can_read, can_write, acknowledge, finish}
 use Rattle.stream.specs.declared.State.{State}
 use Rattle.stream.specs.declared.State.TheVariants.{Open, SendClosed, RecvClosed, Closed}
@@ -17,12 +15,7 @@ use Rattle.stream.specs.declared.Flag.{Flag}
 use Rattle.stream.specs.declared.Flag.TheVariants as owed
 use Rattle.stream.specs.declared.Stream.{Stream}
 use Rattle.stream.specs.declared.StreamWakes.{StreamWakes}
-use Rattle.stream.specs.declared.Sent.{Sent}
-use Rattle.stream.specs.declared.Sent.TheVariants.{Frame, Nothing}
-use Rattle.stream.specs.declared.Received.{Received}
-use Rattle.stream.specs.declared.Received.TheVariants.{Taken, ProtocolError}
 use Rattle.stream.specs.declared.Woken.{Woken}
-use Rattle.stream.specs.declared.Step.TheVariants.{Took, Skipped}
 use Rattle.stream.specs.declared.Updated.{Updated}
 use Rattle.stream.specs.declared.ReadEnd.{ReadEnd}
 use Rattle.stream.specs.declared.ReadEnd.TheVariants as reading
@@ -58,6 +51,14 @@ wakes r w = record { reader = r; writer = w }
 
 -- ---- frames received
 
+-- what a frame that is taken leaves: the stream, and who waited
+abbrev pub received : Stream → StreamWakes → Result Woken InvalidWindowUpdate
+received s w = Ok (record { stream = s; wakes = w })
+
+-- code 1
+abbrev pub invalid : Result Woken InvalidWindowUpdate
+invalid = Err (record {})
+
 -- "Else the window falls by the body; then FIN (next state RecvClosed), body queued, reader woken."
 abbrev pub data_taken : Stream → ℕ → Bool → Stream
 data_taken s n fin = record {
@@ -70,8 +71,8 @@ data_taken s n fin = record {
 }
 
 -- "Known, Data: body above the receive window, code 1."
-abbrev pub on_data : Stream → ℕ → Bool → Received
-on_data s n fin = cond (leb n s.flow.receive_window) (Taken (data_taken s n fin) (wakes s.reader false)) ProtocolError
+abbrev pub on_data : Stream → ℕ → Bool → Result Woken InvalidWindowUpdate
+on_data s n fin = cond (leb n s.flow.receive_window) (received (data_taken s n fin) (wakes s.reader false)) invalid
 
 -- "else credit added, FIN (waking the reader), writer woken"
 abbrev pub update_taken : Stream → Credit → Bool → Stream
@@ -85,11 +86,11 @@ update_taken s c fin = record {
 }
 
 -- "WindowUpdate: send window past 2^32-1, code 1"
-abbrev pub on_window_update : Stream → Credit → Bool → Received
+abbrev pub on_window_update : Stream → Credit → Bool → Result Woken InvalidWindowUpdate
 on_window_update s c fin =
     cond (leb (s.flow.send_window + c.0) top)
-    (Taken (update_taken s c fin) (wakes (cond fin s.reader false) s.writer))
-    ProtocolError
+    (received (update_taken s c fin) (wakes (cond fin s.reader false) s.writer))
+    invalid
 
 -- "RST: a known stream becomes Closed, .. reader and writer woken"; ending does the same to each stream in the table
 abbrev pub closed : Stream → Stream
@@ -118,14 +119,14 @@ owes_ack owed.Ack = true
 -- ---- read
 
 -- "Then a WindowUpdate carries due": the frame for what the window step granted
-abbrev pub update_frame : Stream → Update → Sent
-update_frame s update.NotDue = Nothing
-update_frame s (update.Due why c) = Frame (add_flag s.flag (window_update_header s.id c))
+abbrev pub update_frame : Stream → Option Due → Option Header
+update_frame s None = None
+update_frame s (Some d) = Some (add_flag s.flag (window_update_header s.id d.credit))
 
 -- a flag that was sent is owed no more
-abbrev pub flag_after : Sent → Flag → Flag
-flag_after Nothing f = f
-flag_after (Frame h) f = owed.None
+abbrev pub flag_after : Option Header → Flag → Flag
+flag_after None f = f
+flag_after (Some h) f = owed.None
 
 abbrev pub step_taken : Stream → Moved → Updated
 step_taken s t = record {
@@ -138,18 +139,18 @@ step_taken s t = record {
     flow = t.flow;
   };
   growth = t.granted.growth;
-  step = Took t.granted.update;
+  step = Some t.granted;
   sent = update_frame s t.granted.update;
 }
 
 -- "first the window update if the state is Open or SendClosed"
-abbrev pub send_window_update : Stream → ℕ → ℕ → RoundTrip → ℕ → ℕ → ℕ → Updated
+abbrev pub send_window_update : Stream → ℕ → ℕ → Option ℕ → ℕ → ℕ → ℕ → Updated
 send_window_update s unread now rt limit m growth =
     cond (can_read s.state)
     (step_taken s
     (next_window_update s.flow
     (record { unread = unread; time = now; round_trip = rt; limit = limit; max_num_streams = m; growth = growth })))
-    (record { stream = s; growth = growth; step = Skipped; sent = Nothing })
+    (record { stream = s; growth = growth; step = None; sent = None })
 
 -- "if that is 0: done with 0 in RecvClosed or Closed, else wait"
 abbrev pub read_end : Stream → ℕ → ReadEnd
@@ -200,7 +201,7 @@ close_taken s = record {
     writer = s.writer;
     flow = s.flow;
   };
-  sent = Frame (close_stream s.id (owes_ack s.flag));
+  sent = Some (close_stream s.id (owes_ack s.flag));
 }
 
 -- "Close: Closed, done without a frame."
@@ -208,7 +209,7 @@ abbrev pub close_in : State → Stream → Closing
 close_in (Open a) s = close_taken s
 close_in SendClosed s = close_taken s
 close_in RecvClosed s = close_taken s
-close_in Closed s = record { stream = s; sent = Nothing }
+close_in Closed s = record { stream = s; sent = None }
 
 abbrev pub close : Stream → Closing
 close s = close_in s.state s
@@ -219,11 +220,11 @@ abbrev pub empty : Len
 empty = record { 0 = 0 }
 
 -- "if it was Open, RST is given; RecvClosed gives FIN, else none"
-abbrev pub farewell : State → StreamId → Sent
-farewell (Open a) id = Frame (with_rst (data_header id empty))
-farewell RecvClosed id = Frame (with_fin (data_header id empty))
-farewell SendClosed id = Nothing
-farewell Closed id = Nothing
+abbrev pub farewell : State → StreamId → Option Header
+farewell (Open a) id = Some (with_rst (data_header id empty))
+farewell RecvClosed id = Some (with_fin (data_header id empty))
+farewell SendClosed id = None
+farewell Closed id = None
 
 -- "making it Closed: ..; its reader and writer are woken"
 abbrev pub dropped : Stream → Dropped

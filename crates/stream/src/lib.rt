@@ -7,12 +7,12 @@ mod states;
 ghost use Rattle.std.specs.Prelude.{◌≡◌};
 ghost use Rattle.stream.specs.States.{change};
 ghost use Rattle.stream.specs.Streams.{made, new_inbound, new_outbound, with_state, on_data, on_window_update, reset, acknowledged};
-ghost use Rattle.stream.specs.Streams.{add_flag, update_frame, step_taken, send_window_update, read_end};
+ghost use Rattle.stream.specs.Streams.{add_flag, update_frame, send_window_update, read_end};
 
-use flow_control::{Conditions, FlowController, Moved, Update, Verdict, lent};
+use flow_control::{Conditions, Due, FlowController, Granted, InvalidWindowUpdate};
 use frame::header::{Credit, DEFAULT_CREDIT, Header, StreamId};
 
-#[derive(Clone, Copy)]
+#[derive(Clone, Copy, Debug, PartialEq, Eq)]
 pub enum State {
     // Open both ways. Of our own stream `acknowledged` says that the remote sent ACK, of an inbound one that we did.
     Open { acknowledged: bool },
@@ -23,15 +23,15 @@ pub enum State {
     Closed,
 }
 
-// The flag that the stream's next frame has to carry.
-#[derive(Clone, Copy)]
+// The flag that the stream's next frame has to carry. Not an Option: None is one of the Rust's three, and a match names all of them.
+#[derive(Clone, Copy, Debug, PartialEq, Eq)]
 pub enum Flag {
     None,
     Syn,
     Ack,
 }
 
-#[derive(Clone, Copy)]
+#[derive(Clone, Copy, Debug, PartialEq, Eq)]
 pub struct Stream {
     pub id: StreamId,
     pub flag: Flag,
@@ -42,71 +42,58 @@ pub struct Stream {
 }
 
 // Who waited, and waits no more.
-#[derive(Clone, Copy)]
+#[derive(Clone, Copy, Debug, PartialEq, Eq)]
 pub struct StreamWakes {
     pub reader: bool,
     pub writer: bool,
 }
 
-// The frame to send.
-#[derive(Clone, Copy)]
-pub enum Sent {
-    Frame(Header),
-    Nothing,
-}
+// Nobody waited.
+pub const QUIET: StreamWakes = StreamWakes {
+    reader: false,
+    writer: false,
+};
 
-// A frame was taken, or breaks the protocol.
-#[derive(Clone, Copy)]
-pub enum Received {
-    Taken(Stream, StreamWakes),
-    ProtocolError,
-}
-
-#[derive(Clone, Copy)]
+#[derive(Clone, Copy, Debug, PartialEq, Eq)]
 pub struct Woken {
     pub stream: Stream,
     pub wakes: StreamWakes,
 }
 
-// Whether a read took the window step, and what that did.
-#[derive(Clone, Copy)]
-pub enum Step {
-    Took(Update),
-    Skipped,
-}
-
-#[derive(Clone, Copy)]
+// The stream after the window step of a read, what the step granted where it was taken, and the frame for that.
+#[derive(Clone, Copy, Debug, PartialEq, Eq)]
 pub struct Updated {
     pub stream: Stream,
     pub growth: u64,
-    pub step: Step,
-    pub sent: Sent,
+    pub step: Option<Granted>,
+    pub sent: Option<Header>,
 }
 
-// How a read ends.
-#[derive(Clone, Copy)]
+// How a read ends. Not a Result: both are fine ends, and a wait leaves a stream too.
+#[derive(Clone, Copy, Debug, PartialEq, Eq)]
 pub enum ReadEnd {
     Done(Stream),
     Wait(Stream),
 }
 
-#[derive(Clone, Copy)]
+// What a write does. Not a Result of an Option, in which a wait would be an Ok of None.
+#[derive(Clone, Copy, Debug, PartialEq, Eq)]
 pub enum Written {
     Frame(Stream, Header),
     Wait(Stream),
     Closed,
 }
 
-#[derive(Clone, Copy)]
+#[derive(Clone, Copy, Debug, PartialEq, Eq)]
 pub struct Closing {
     pub stream: Stream,
-    pub sent: Sent,
+    pub sent: Option<Header>,
 }
 
-#[derive(Clone, Copy)]
+#[derive(Clone, Copy, Debug, PartialEq, Eq)]
 pub struct Dropped {
     pub stream: Stream,
-    pub sent: Sent,
+    pub sent: Option<Header>,
     pub wakes: StreamWakes,
 }
 
@@ -114,7 +101,6 @@ impl Stream {
     fn new(id: StreamId, flag: Flag, send_window: u32, now: u64) -> Self
         ensures { result ≡ made id flag send_window now }
     {
-        let flow = FlowController::new(send_window, now);
         Stream {
             id,
             flag,
@@ -123,7 +109,7 @@ impl Stream {
             },
             reader: false,
             writer: false,
-            flow,
+            flow: FlowController::new(send_window, now),
         }
     }
 
@@ -145,88 +131,70 @@ impl Stream {
     pub(crate) fn update_state(self, next: State) -> Stream
         ensures { result ≡ with_state self (change self.state next) }
     {
-        let current = self.state;
-        let state = current.update(next);
-        Stream { state, ..self }
+        Stream {
+            state: self.state.update(next),
+            ..self
+        }
     }
 
     // The body is taken from the receive window, and the reader woken.
-    pub fn on_data(self, body_len: u32, fin: bool) -> Received
+    pub fn on_data(mut self, body_len: u32, fin: bool) -> Result<Woken, InvalidWindowUpdate>
         ensures { result ≡ on_data self body_len fin }
     {
-        let settled = lent::after_body(self.flow, body_len);
-        let verdict = settled.verdict;
-        let Verdict::Done = verdict else {
-            return Received::ProtocolError;
-        };
-        let flow = settled.flow;
-        let stream = Stream {
-            reader: false,
-            flow,
-            ..self
-        };
+        self.flow.consume_receive_window(body_len)?;
         let wakes = StreamWakes {
             reader: self.reader,
             writer: false,
         };
+        self.reader = false;
         if fin {
-            let stream = stream.update_state(State::RecvClosed);
-            return Received::Taken(stream, wakes);
+            self = self.update_state(State::RecvClosed);
         }
-        Received::Taken(stream, wakes)
+        Ok(Woken {
+            stream: self,
+            wakes,
+        })
     }
 
     // The credit is added to the send window, and the writer woken; by FIN the reader too.
-    pub fn on_window_update(self, credit: Credit, fin: bool) -> Received
+    pub fn on_window_update(
+        mut self,
+        credit: Credit,
+        fin: bool,
+    ) -> Result<Woken, InvalidWindowUpdate>
         ensures { result ≡ on_window_update self credit fin }
     {
-        let settled = lent::after_credit(self.flow, credit);
-        let verdict = settled.verdict;
-        let Verdict::Done = verdict else {
-            return Received::ProtocolError;
-        };
-        let flow = settled.flow;
-        let stream = Stream {
-            writer: false,
-            flow,
-            ..self
-        };
-        if fin {
-            let stream = stream.update_state(State::RecvClosed);
-            let stream = Stream {
-                reader: false,
-                ..stream
-            };
-            let wakes = StreamWakes {
-                reader: self.reader,
-                writer: self.writer,
-            };
-            return Received::Taken(stream, wakes);
-        }
+        self.flow.increase_send_window_by(credit)?;
         let wakes = StreamWakes {
-            reader: false,
+            reader: fin && self.reader,
             writer: self.writer,
         };
-        Received::Taken(stream, wakes)
+        self.writer = false;
+        if fin {
+            self = self.update_state(State::RecvClosed);
+            self.reader = false;
+        }
+        Ok(Woken {
+            stream: self,
+            wakes,
+        })
     }
 
     // Closed for good, with reader and writer woken.
     pub fn reset(self) -> Woken
         ensures { result ≡ reset self }
     {
+        let wakes = StreamWakes {
+            reader: self.reader,
+            writer: self.writer,
+        };
         let stream = Stream {
             state: State::Closed,
             reader: false,
             writer: false,
             ..self
         };
-        Woken {
-            stream,
-            wakes: StreamWakes {
-                reader: self.reader,
-                writer: self.writer,
-            },
-        }
+        Woken { stream, wakes }
     }
 
     // The remote's ACK has come, or ours has gone out.
@@ -240,8 +208,7 @@ impl Stream {
     pub(crate) fn add_flag(self, header: Header) -> Header
         ensures { result ≡ add_flag self.flag header }
     {
-        let flag = self.flag;
-        match flag {
+        match self.flag {
             Flag::None => header,
             Flag::Syn => header.syn(),
             Flag::Ack => header.ack(),
@@ -249,68 +216,46 @@ impl Stream {
     }
 
     // The frame for what the window step granted, with the flag that is owed.
-    fn update_frame(self, update: Update) -> Sent
+    fn update_frame(self, update: Option<Due>) -> Option<Header>
         ensures { result ≡ update_frame self update }
     {
-        let Update::Due(_, credit) = update else {
-            return Sent::Nothing;
-        };
-        let header = Header::window_update(self.id, credit);
-        let header = self.add_flag(header);
-        Sent::Frame(header)
-    }
-
-    // The window step's outcome, carried to the stream and its frame.
-    fn step_taken(self, moved: Moved) -> Updated
-        ensures { result ≡ step_taken self moved }
-    {
-        let granted = moved.granted;
-        let update = granted.update;
-        let sent = self.update_frame(update);
-        let owed = self.flag;
-        let flag = owed.after(sent);
-        let flow = moved.flow;
-        let stream = Stream { flag, flow, ..self };
-        Updated {
-            stream,
-            growth: granted.growth,
-            step: Step::Took(update),
-            sent,
-        }
+        let due = update?;
+        Some(self.add_flag(Header::window_update(self.id, due.credit)))
     }
 
     // The window step of a read, taken while the remote may still send.
-    pub fn send_window_update(self, conditions: Conditions) -> Updated
+    pub fn send_window_update(mut self, conditions: Conditions) -> Updated
         ensures { result ≡ send_window_update self conditions.unread conditions.time conditions.round_trip conditions.limit conditions.max_num_streams conditions.growth }
     {
-        let state = self.state;
-        if !state.can_read() {
+        if !self.state.can_read() {
             return Updated {
                 stream: self,
                 growth: conditions.growth,
-                step: Step::Skipped,
-                sent: Sent::Nothing,
+                step: None,
+                sent: None,
             };
         }
-        let moved = lent::after_step(self.flow, conditions);
-        self.step_taken(moved)
+        let granted = self.flow.next_window_update(conditions);
+        let sent = self.update_frame(granted.update);
+        self.flag = self.flag.after(sent);
+        Updated {
+            stream: self,
+            growth: granted.growth,
+            step: Some(granted),
+            sent,
+        }
     }
 
     // How a read that took so many bytes ends.
     pub fn read_end(self, taken: u32) -> ReadEnd
         ensures { result ≡ read_end self taken }
     {
-        if taken != 0 {
+        if taken != 0 || !self.state.can_read() {
             return ReadEnd::Done(self);
         }
-        let state = self.state;
-        if !state.can_read() {
-            return ReadEnd::Done(self);
-        }
-        let stream = Stream {
+        ReadEnd::Wait(Stream {
             reader: true,
             ..self
-        };
-        ReadEnd::Wait(stream)
+        })
     }
 }

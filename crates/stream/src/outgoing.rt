@@ -1,118 +1,85 @@
 // Write, close and drop: the stream's part of what we send.
-ghost use Rattle.std.specs.Prelude.{◌≡◌, ◌≤◌, min};
+ghost use Rattle.std.specs.Prelude.{◌≡◌, ◌≤◌};
 ghost use Rattle.stream.specs.Streams.{write_count, write_taken, write, close_taken, close, farewell, dropped};
 
-use crate::{Closing, Dropped, Flag, Sent, State, Stream, Written};
-use flow_control::{Verdict, lent};
+use crate::{Closing, Dropped, Flag, State, Stream, Woken, Written};
 use frame::header::{Header, Len};
-
-fn least(a: u32, b: u32) -> u32
-    ensures { result ≡ min a b }
-{
-    if a < b { a } else { b }
-}
 
 impl Stream {
     // The bytes that one frame may carry.
     fn write_count(self, given: usize, split: u32) -> u32
         ensures { result ≡ write_count self given split }
     {
-        let most = least(self.flow.send_window, split);
-        if given < most as usize {
-            given as u32
-        } else {
-            most
-        }
+        let most = self.flow.send_window.min(split);
+        given.min(most as usize) as u32
     }
 
     // The frame of n bytes, with the flag that is owed.
-    fn write_taken(self, n: u32) -> Written
+    fn write_taken(mut self, n: u32) -> Written
         requires { n ≤ self.flow.send_window }
         ensures { result ≡ write_taken self n }
     {
-        let settled = lent::after_send(self.flow, n);
-        let verdict = settled.verdict;
-        let Verdict::Done = verdict else {
-            // Never: n is at most the window.
-            return Written::Closed;
-        };
-        let header = Header::data(self.id, Len(n));
-        let header = self.add_flag(header);
-        let flow = settled.flow;
-        let stream = Stream {
-            flag: Flag::None,
-            flow,
-            ..self
-        };
-        let flag = self.flag;
-        if flag.owes_ack() {
-            let stream = stream.acknowledge();
-            return Written::Frame(stream, header);
+        let header = self.add_flag(Header::data(self.id, Len(n)));
+        self.flow.consume_send_window(n).unwrap();
+        if self.flag.owes_ack() {
+            self = self.acknowledge();
         }
-        Written::Frame(stream, header)
+        self.flag = Flag::None;
+        Written::Frame(self, header)
     }
 
     // One Data frame of what was given, as far as the window and the split size allow.
     pub fn write(self, given: usize, split: u32) -> Written
         ensures { result ≡ write self given split }
     {
-        let state = self.state;
-        if !state.can_write() {
+        if !self.state.can_write() {
             return Written::Closed;
         }
         if self.flow.send_window == 0 {
-            let stream = Stream {
+            return Written::Wait(Stream {
                 writer: true,
                 ..self
-            };
-            return Written::Wait(stream);
+            });
         }
-        let n = self.write_count(given, split);
-        self.write_taken(n)
+        self.write_taken(self.write_count(given, split))
     }
 
     // The FIN, and what it leaves owed: a SYN stays.
-    fn close_taken(self) -> Closing
+    fn close_taken(mut self) -> Closing
         ensures { result ≡ close_taken self }
     {
-        let flag = self.flag;
-        let ack = flag.owes_ack();
-        let header = frame::close_stream(self.id, ack);
-        let stream = self.update_state(State::SendClosed);
-        let sent = Sent::Frame(header);
+        let ack = self.flag.owes_ack();
         if ack {
-            let flag = Flag::None;
-            let stream = Stream { flag, ..stream };
-            return Closing { stream, sent };
+            self.flag = Flag::None;
         }
-        Closing { stream, sent }
+        Closing {
+            stream: self.update_state(State::SendClosed),
+            sent: Some(frame::close_stream(self.id, ack)),
+        }
     }
 
     // Our side is closed by a FIN, which pays an ACK that is owed.
     pub fn close(self) -> Closing
         ensures { result ≡ close self }
     {
-        let state = self.state;
-        if state.is_closed() {
+        if self.state.is_closed() {
             return Closing {
                 stream: self,
-                sent: Sent::Nothing,
+                sent: None,
             };
         }
         self.close_taken()
     }
 
     // The frame that tells the remote of a drop.
-    fn farewell(self) -> Sent
+    fn farewell(self) -> Option<Header>
         ensures { result ≡ farewell self.state self.id }
     {
-        let state = self.state;
         let header = Header::data(self.id, Len(0));
-        match state {
-            State::Open { acknowledged: _ } => Sent::Frame(header.rst()),
-            State::RecvClosed => Sent::Frame(header.fin()),
-            State::SendClosed => Sent::Nothing,
-            State::Closed => Sent::Nothing,
+        match self.state {
+            State::Open { .. } => Some(header.rst()),
+            State::RecvClosed => Some(header.fin()),
+            State::SendClosed | State::Closed => None,
         }
     }
 
@@ -120,9 +87,7 @@ impl Stream {
     pub fn drop(self) -> Dropped
         ensures { result ≡ dropped self }
     {
-        let woken = self.reset();
-        let stream = woken.stream;
-        let wakes = woken.wakes;
+        let Woken { stream, wakes } = self.reset();
         let sent = self.farewell();
         Dropped {
             stream,

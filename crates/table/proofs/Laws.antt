@@ -1,19 +1,10 @@
 -- The laws that a caller of the table cites: what loads and stores say of its view. Assumes nothing.
-use mathlib.Core.Bool.{Bool, true, false, cond}
-use mathlib.Core.List.{List, [], map}
-use mathlib.Core.Path.{◌≡◌, refl, sym, ap, ◌∙◌, subst}
-use mathlib.Core.Logic.{◌≢◌}
-use Prim.Native.Nat.{ℕ, zero, suc, ◌+◌, ◌*◌, ◌/◌, ◌≤◌, ◌<◌}
+use Rattle.std.proofs.Common.{true, List, [], map, ◌≡◌, refl, sym, ap, ◌∙◌, subst, ◌≢◌, ℕ, zero, suc, ◌+◌, ◌*◌, ◌/◌, ◌≤◌, ◌<◌, mod-lt, add-one, arith, le-leb, leb-true, lt-ltb, ltb, leb, length, get_or, take, drop, set, replicate, length-set, ext_get_or, get_or-set_same, get_or-set_other, drop-set-lt}
 use native.Mathlib.Decide.{ℕ_discrete, dec_lt}
-use native.Mathlib.Nat.{mod-lt}
-use native.Mathlib.Numerals.{add-one}
-use native.Mathlib.Omega.{arith}
-use borrow.Author.Tests.{le-leb, leb-true, lt-ltb}
-use lib.Dec.{ltb, leb}
-use lib.ListN.{length, get_or, take, drop, set, replicate, length-set, length-replicate, get_or-replicate, length-map, get_or-map}
-use lib.Seq.{ext_get_or, get_or-set_same, get_or-set_other, drop-set-lt}
+use lib.ListN.{length-replicate, get_or-replicate, length-map, get_or-map}
 use Rattle.frame.specs.declared.header.StreamId.{StreamId}
 use Rattle.chunks.specs.Blocks.{put}
+use Rattle.rules.proofs.Lists.{split, either}
 use Rattle.table.specs.Rows.{row_of, key_of, cells_of, blank, end_row, Proper}
 use Rattle.table.specs.Table.{size, place, row_at, view, stored, hint_place, inserted, ended, zeros, Tied, nth}
 use Rattle.table.specs.declared.row.Row.{Row}
@@ -23,24 +14,17 @@ use Rattle.table.proofs.Packing.{packed, proper_row_of, proper_end, key_listed}
 
 -- ---- lengths
 
-length_if : (t : List ℕ) (a i : ℕ) (r : Row) (b : Bool) → leb (a + 6) (length t) ≡ b → length (cond b (put (set t i (key_of r)) a (cells_of r)) t) ≡ length t
-length_if t a i r true e =
-    length-put (set t i (key_of r)) (cells_of r) a (omega (arith, leb-true (a + 6) (length t) e, length-set t i (key_of r))) ∙ length-set t i (key_of r)
-length_if t a i r false e = refl
-
 pub length-stored : (t : List ℕ) (k i : ℕ) (r : Row) → length (stored t k i r) ≡ length t
 unfolding stored
-length-stored t k i r = length_if t (place k i) i r (leb (place k i + 6) (length t)) refl
-
-length_either : (b : Bool) (s t : List ℕ) → length s ≡ length t → length (cond b s t) ≡ length t
-length_either true s t e = e
-length_either false s t e = refl
+length-stored t k i r =
+    split (λ (l : List ℕ). length l ≡ length t) (leb (place k i + 6) (length t))
+    (λ e. length-put (set t i (key_of r)) (cells_of r) (place k i) (omega (arith, leb-true (place k i + 6) (length t) e, length-set t i (key_of r))) ∙ length-set t i (key_of r))
+    (λ e. refl)
 
 pub length_inserted : (t : List ℕ) (k i : ℕ) (r : Row) → length (inserted t k i r) ≡ length t
 unfolding inserted
 length_inserted t k i r =
-    length_either (ltb i k) (set (stored t k i r) (hint_place k r.stream.id) i) t
-    (length-set (stored t k i r) (hint_place k r.stream.id) i ∙ length-stored t k i r)
+    either (λ (l : List ℕ). length l ≡ length t) (ltb i k) (length-set (stored t k i r) (hint_place k r.stream.id) i ∙ length-stored t k i r) refl
 
 pub length-ended : (t : List ℕ) (k n : ℕ) → length (ended t k n) ≡ length t
 unfolding ended
@@ -64,11 +48,7 @@ nth-view t k i h = get_d_tabulate k (row_at t k) i blank h
 -- whatever the cells are
 pub proper_row : (t : List ℕ) (k i : ℕ) → Proper (row_at t k i)
 unfolding row_at
-proper_row t k i = go (leb (place k i + 6) (length t))
-  where
-    go : (b : Bool) → Proper (cond b (row_of (get_or t i 0) (take 6 (drop (place k i) t))) blank)
-    go true = proper_row_of (get_or t i 0) (take 6 (drop (place k i) t))
-    go false = proper_row_of 0 []
+proper_row t k i = either Proper (leb (place k i + 6) (length t)) (proper_row_of (get_or t i 0) (take 6 (drop (place k i) t))) (proper_row_of 0 [])
 
 -- two tables with the same rows have the same view
 pub view_ext : (k : ℕ) (t : List ℕ) (rs : List Row) → length rs ≡ k → ((j : ℕ) → j < k → row_at t k j ≡ nth rs j) → view t k ≡ rs

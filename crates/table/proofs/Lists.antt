@@ -1,11 +1,5 @@
 -- Laws of tests and of tabulated lists, over any element type. Assumes nothing.
-use mathlib.Core.Bool.{Bool, true, false}
-use mathlib.Core.List.{List, ◌∷◌}
-use mathlib.Core.Path.{◌≡◌, refl, ap}
-use Prim.Native.Nat.{ℕ, zero, suc, ◌+◌, ◌≤◌, ◌<◌}
-use native.Mathlib.Nat.{le_of_suc-le-suc}
-use native.Mathlib.Omega.{arith}
-use lib.ListN.{length, get_or, take, drop, replicate}
+use Rattle.std.proofs.Common.{Bool, true, false, List, ◌∷◌, ◌≡◌, refl, ap, ℕ, zero, suc, ◌+◌, ◌≤◌, ◌<◌, le_of_suc-le-suc, arith, length, get_or, take, drop, replicate}
 use Rattle.table.specs.Table.{tabulate}
 
 pub false_of : (b : Bool) → (b ≡ true → ⊥) → b ≡ false

@@ -1,29 +1,9 @@
 -- Laws of a part of a list that is replaced by one as long. Assumes nothing.
-use mathlib.Core.Path.{◌≡◌, refl, sym, ap, ◌∙◌}
-use mathlib.Core.List.{List, [], ◌∷◌, ◌++◌, append_assoc}
-use Prim.Native.Nat.{ℕ, ◌+◌, ◌-◌, ◌≤◌, ◌<◌}
-use native.Mathlib.Omega.{arith}
-use lib.ListN.{length, get_or, take, drop, set, length-append, length-drop, get_or-append}
-use lib.Seq.{drop-drop, take-take, take-append-le, drop-append-le, drop-append-add, drop_at, take_at, length-take-le, get_or-take}
+use Rattle.std.proofs.Common.{◌≡◌, refl, sym, ap, ◌∙◌, List, ◌++◌, append_assoc, ℕ, ◌+◌, ◌-◌, ◌≤◌, ◌<◌, arith, length, get_or, take, drop, length-append, length-drop, drop-drop, take-take, drop_at, take_at, length-take-le, get_or-take}
+use lib.ListN.{get_or-append}
+use lib.Seq.{take-append-le, drop-append-le, drop-append-add}
 use Rattle.chunks.specs.Blocks.{put}
 use Rattle.chunks.proofs.Parts.{drop-take}
-
--- a list of six, each written
-pub six : (l : List ℕ) (a b c d e f : ℕ) → length l ≡ 6 → set (set (set (set (set (set l 0 a) 1 b) 2 c) 3 d) 4 e) 5 f ≡ a ∷ b ∷ c ∷ d ∷ e ∷ f ∷ []
-six [] a b c d e f h = absurd (omega arith)
-six (_ ∷ []) a b c d e f h = absurd (omega arith)
-six (_ ∷ _ ∷ []) a b c d e f h = absurd (omega arith)
-six (_ ∷ _ ∷ _ ∷ []) a b c d e f h = absurd (omega arith)
-six (_ ∷ _ ∷ _ ∷ _ ∷ []) a b c d e f h = absurd (omega arith)
-six (_ ∷ _ ∷ _ ∷ _ ∷ _ ∷ []) a b c d e f h = absurd (omega arith)
-six (_ ∷ _ ∷ _ ∷ _ ∷ _ ∷ _ ∷ []) a b c d e f h = refl
-six (_ ∷ _ ∷ _ ∷ _ ∷ _ ∷ _ ∷ _ ∷ r) a b c d e f h = absurd (omega arith)
-
--- a part that is lent and given back as b, of the whole
-pub put-part : (t b d : List ℕ) (a n : ℕ) → n ≡ length b → d ≡ b → take a t ++ (d ++ drop n (drop a t)) ≡ put t a b
-put-part t b d a n h e =
-    ap (λ (r : List ℕ). take a t ++ (r ++ drop n (drop a t))) e
-    ∙ ap (λ (r : List ℕ). take a t ++ (b ++ r)) (drop-drop n a t ∙ ap (λ (k : ℕ). drop (a + k) t) h)
 
 module _ (t b : List ℕ) (a : ℕ) (fits : a + length b ≤ length t) where
   long : length (take a t) ≡ a

@@ -1,15 +1,13 @@
 -- What a scan of the keys finds, and a walk of the rows counts. Assumes nothing.
-use mathlib.Core.Bool.{Bool, false}
-use mathlib.Core.List.{List}
-use mathlib.Core.Path.{◌≡◌, refl, sym, ap, ◌∙◌}
-use Prim.Native.Nat.{ℕ, ◌+◌, min, ◌≤◌, ◌<◌}
+use Rattle.std.proofs.Common.{Some, None, Bool, List, ◌≡◌, refl, sym, ap, ◌∙◌, ℕ, ◌+◌, min, ◌≤◌, ◌<◌, add-one, arith, eqb-true, eqb, length, get_or, take, drop, length-take, drop_of_length-le, get_or-take}
 use native.Mathlib.Decide.{dec_lt}
-use native.Mathlib.Numerals.{add-one}
-use native.Mathlib.Omega.{arith}
-use borrow.Author.Tests.{eqb-true, eqb-false, eq-eqb, ne_eqb}
-use lib.Dec.{eqb}
-use lib.ListN.{length, get_or, take, drop, length-take, drop_of_length-le, get_or-eq_default}
-use lib.Seq.{get_or-take}
+use borrow.Author.Tests.{eqb-false}
+use lib.ListN.{get_or-eq_default}
+use Rattle.std.specs.List.{position, position_or_len}
+use Rattle.std.proofs.lemmas.Grind.{common_steps}
+use Rattle.std.proofs.lemmas.List.{take_min}
+use Rattle.std.proofs.lemmas.List.Quantifiers.{position-Some}
+use Rattle.std.proofs.lemmas.List.Sums.{fails_before_first}
 use Rattle.frame.specs.declared.header.StreamId.{StreamId}
 use Rattle.rules.specs.Lists.{Place, at, nowhere, first, sum}
 use Rattle.rules.specs.State.{one, found_of}
@@ -17,7 +15,6 @@ use Rattle.rules.specs.declared.Mode.{Mode}
 use Rattle.table.specs.Rows.{is_unacknowledged, blank}
 use Rattle.table.specs.Table.{scanned, Finds, row_at, view, unacknowledged}
 use Rattle.table.specs.declared.row.Row.{Row}
-use Rattle.rules.specs.declared.Which.TheVariants.{At, None}
 use Rattle.rules.proofs.Lists.{Says, first_says, first-at, first-nowhere, sum_drop}
 use Rattle.table.proofs.Lists.{length-tabulate, get_d_tabulate}
 
@@ -27,21 +24,19 @@ module _ (t : List ℕ) (k key : ℕ) where
   abbrev is : ℕ → Bool
   is c = eqb c key
 
-  -- none of the first n keys, of those that there are, is this one
-  missed : (n : ℕ) → n ≤ k → ((j : ℕ) → j < n → get_or t j 0 ≡ key → ⊥) → (j : ℕ) → j < n → is (get_or (take k t) j 0) ≡ false
-  missed n h none j p =
-      ap is (get_or-take k t j 0 (omega arith)) ∙ ne_eqb (get_or t j 0) key (none j p)
-
-  pub scan-at : (i : ℕ) → i < min k (length t) → ((j : ℕ) → j < i → get_or t j 0 ≡ key → ⊥) → get_or t i 0 ≡ key → At (record { 0 = i }) ≡ scanned t k key
+  -- the library's first place of the key, where the table may end before the k keys
+  pub scan-at : (n : ℕ) → n ≡ min k (length t) → (i : ℕ) → position is (take n t) ≡ Some i → Some (record { 0 = i }) ≡ scanned t k key
   unfolding scanned
-  scan-at i h none e =
-      ap found_of (sym (first-at is (take k t) i 0 (omega (arith, length-take k t)) (missed i (omega arith) none)
-      (ap is (get_or-take k t i 0 (omega arith)) ∙ eq-eqb (get_or t i 0) key e)))
+  scan-at n m i e =
+      let s = position-Some is (take k t) i 0 (rw (m, take_min k t) at e) in
+      ap found_of (sym (first-at is (take k t) i 0 s.0 s.2 s.1))
 
-  pub scan-nowhere : ((j : ℕ) → j < min k (length t) → get_or t j 0 ≡ key → ⊥) → None ≡ scanned t k key
+  pub scan-nowhere : (n : ℕ) → n ≡ min k (length t) → position is (take n t) ≡ None → None ≡ scanned t k key
   unfolding scanned
-  scan-nowhere none =
-      ap found_of (sym (first-nowhere is (take k t) 0 (λ j h. missed (min k (length t)) (omega arith) none j (omega (arith, length-take k t)))))
+  scan-nowhere n m e =
+      let e₂ = rw (m, take_min k t) at e in
+      let s : length (take k t) ≤ position_or_len is (take k t) = grind (arith, common_steps) in
+      ap found_of (sym (first-nowhere is (take k t) 0 (λ j h. fails_before_first is (take k t) j 0 (omega arith))))
 
 -- a scan for an id's key finds it
 module _ (t : List ℕ) (k : ℕ) (id : StreamId) where

@@ -1,15 +1,6 @@
 -- The laws of the table's searches, in terms of its view. Assumes nothing.
-use mathlib.Core.Bool.{Bool, true, false, cond}
-use mathlib.Core.List.{List}
-use mathlib.Core.Path.{◌≡◌, refl, sym, ap, ◌∙◌}
-use mathlib.Core.Logic.{◌≢◌}
-use Prim.Native.Nat.{ℕ, zero, suc, ◌+◌, ◌<◌}
+use Rattle.std.proofs.Common.{Option, Some, None, Bool, true, false, cond, List, ◌≡◌, refl, sym, ap, ◌∙◌, ◌≢◌, ℕ, zero, suc, ◌+◌, ◌<◌, arith, lt-ltb, ltb-true, eq-eqb, ne_eqb, eqb-true, ltb, eqb, length, get_or, take, set, length-take, length-set, get_or-take, get_or-set_same, get_or-set_other}
 use native.Mathlib.Decide.{ℕ_discrete}
-use native.Mathlib.Omega.{arith}
-use borrow.Author.Tests.{lt-ltb, ltb-true, eq-eqb, ne_eqb, eqb-true}
-use lib.Dec.{ltb, eqb}
-use lib.ListN.{length, get_or, take, set, length-take, length-set}
-use lib.Seq.{get_or-take, get_or-set_same, get_or-set_other}
 use Rattle.frame.specs.declared.header.StreamId.{StreamId}
 use Rattle.rules.specs.State.{found_of}
 use Rattle.rules.specs.Lists.{Place, at, nowhere, first}
@@ -17,15 +8,13 @@ use Rattle.rules.specs.declared.Slot.{Slot}
 use Rattle.table.specs.Rows.{blank, has_id, is_free}
 use Rattle.table.specs.Table.{size, row_at, view, scanned, lowest_free, Finds, Tied, nth, Distinct}
 use Rattle.table.specs.declared.row.Row.{Row}
-use Rattle.rules.specs.declared.Which.{Which}
-use Rattle.rules.specs.declared.Which.TheVariants.{At, None}
 use Rattle.table.proofs.Laws.{length-view, nth-view, row-held, row_listed}
 use Rattle.rules.proofs.Lists.{both, first-at, first-nowhere, first_same}
 use Rattle.table.proofs.Lists.{false_of}
 
 -- ---- an answer and the place that it stands for
 
-pub found_at : (p : Place) (s : Slot) → At s ≡ found_of p → p ≡ at s.0
+pub found_at : (p : Place) (s : Slot) → Some s ≡ found_of p → p ≡ at s.0
 found_at (at i) s e = cc
 found_at nowhere s e = let z : ◌≡◌ {A = ℕ} 0 1 = cc in absurd (omega arith)
 
@@ -69,9 +58,9 @@ module _ (t : List ℕ) (k : ℕ) (id : StreamId) (sized : length t ≡ size k) 
       omega (arith, tied i h l, eqb-true (row_at t k i).stream.id.0 id.0 b.1)
 
   -- with distinct ids, whatever the hints: the listed slot with that id
-  pub found : Distinct (view t k) → (f : Which) → Finds t k id f → f ≡ found_of (first (has_id id) (view t k))
+  pub found : Distinct (view t k) → (f : Option Slot) → Finds t k id f → f ≡ found_of (first (has_id id) (view t k))
   unfolding Distinct
-  found distinct (At s) fs =
+  found distinct (Some s) fs =
       ap found_of (sym (first-at (has_id id) (view t k) s.0 blank (omega (arith, length-view t k)) none (has_key s.0 fs.0 fs.1)))
     where
       none : (j : ℕ) → j < s.0 → has_id id (nth (view t k) j) ≡ false

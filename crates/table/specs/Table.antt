@@ -1,5 +1,5 @@
 -- The table of K slots: K keys, 2 × K hints, then K rows of six cells.
-use Rattle.std.specs.Prelude.{true, cond, List, [], ◌∷◌, ◌≡◌, ℕ, zero, suc, ◌+◌, ◌*◌, ◌/◌, ◌%◌, ◌<◌, ltb, leb, eqb, length, get_or, take, drop, set, replicate}
+use Rattle.std.specs.Prelude.{true, cond, List, [], ◌∷◌, ◌≡◌, ℕ, zero, suc, ◌+◌, ◌*◌, ◌/◌, ◌%◌, ◌<◌, ltb, leb, eqb, length, get_or, take, drop, set, replicate, Option, Some, None}
 use Rattle.frame.specs.declared.header.StreamId.{StreamId}
 use Rattle.chunks.specs.Blocks.{put}
 use Rattle.rules.specs.Lists.{first, sum}
@@ -7,8 +7,7 @@ use Rattle.rules.specs.State.{one, found_of}
 use Rattle.rules.specs.declared.Mode.{Mode}
 use Rattle.table.specs.Rows.{low, row_of, key_of, cells_of, blank, is_unacknowledged, end_row}
 use Rattle.table.specs.declared.row.Row.{Row}
-use Rattle.rules.specs.declared.Which.{Which}
-use Rattle.rules.specs.declared.Which.TheVariants.{At, None}
+use Rattle.rules.specs.declared.Slot.{Slot}
 
 -- the cells of K slots
 abbrev pub size : ℕ → ℕ
@@ -59,16 +58,16 @@ ended t k (suc n) = stored (ended t k n) k n (end_row (row_at (ended t k n) k n)
 -- ---- searches and counts
 
 -- the first of the K keys that is this one
-unfoldable pub scanned : List ℕ → ℕ → ℕ → Which
+unfoldable pub scanned : List ℕ → ℕ → ℕ → Option Slot
 scanned t k key = found_of (first (λ c. eqb c key) (take k t))
 
 -- 01: "the lowest free one is taken"
-abbrev pub lowest_free : List ℕ → ℕ → Which
+abbrev pub lowest_free : List ℕ → ℕ → Option Slot
 lowest_free t k = scanned t k 0
 
 -- A slot whose key is the id's; or no key is. With ids of listed rows distinct this is one answer (proofs/Searches, `found`).
-abbrev pub Finds : List ℕ → ℕ → StreamId → Which → Type 0
-Finds t k id (At s) = (s.0 < k) × (get_or t s.0 0 ≡ id.0 + 2)
+abbrev pub Finds : List ℕ → ℕ → StreamId → Option Slot → Type 0
+Finds t k id (Some s) = (s.0 < k) × (get_or t s.0 0 ≡ id.0 + 2)
 Finds t k id None = (i : ℕ) → i < k → get_or t i 0 ≡ id.0 + 2 → ⊥
 
 -- 01: "own-parity streams Open and unacknowledged"

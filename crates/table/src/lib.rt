@@ -1,19 +1,16 @@
 // The stream table in lent cells: K keys, 2 × K hints, then K rows of six cells. A hint is never trusted.
+// No struct of cells and k: callers would build it for one call, and the functions that write can't take it.
 #![tactic(auto)]
 
 pub mod row;
 
 ghost use Rattle.std.specs.Prelude.{◌≡◌, ◌≤◌, ◌<◌, length};
-ghost use Rattle.rules.specs.State.{one, is_own};
-ghost use Rattle.table.specs.Rows.{blank, is_unacknowledged};
+ghost use Rattle.table.specs.Rows.{blank};
 ghost use Rattle.table.specs.Table.{size, zeros, place, row_at, stored, hint_place, hinted, inserted, ended, scanned, lowest_free, Finds, unacknowledged};
 
 use frame::header::StreamId;
-use row::Row;
-use rules::{Mode, Slot, Which};
-
-// The cells of a row.
-const ROW: usize = 6;
+use row::{ROW, Row};
+use rules::{Mode, Slot};
 
 // The cells before the rows, for each slot: a key and two hints.
 const FRONT: usize = 3;
@@ -22,50 +19,45 @@ const FRONT: usize = 3;
 pub fn size(k: u32) -> usize
     ensures { result ≡ size k }
 {
-    (FRONT + ROW) * (k as usize)
+    (FRONT + ROW) * k as usize
 }
 
 // Frees every slot.
 pub fn init(table: &mut [u64])
     ensures { table.new ≡ zeros (length table.old) }
 {
-    let mut i: usize = 0;
-    while i < table.len() {
-        table[i] = 0;
-        i += 1;
-    }
+    table.fill(0);
 }
 
 // Where the slot's row starts.
 fn place(k: u32, slot: Slot) -> usize
     ensures { result ≡ place k slot.0 }
 {
-    FRONT * (k as usize) + ROW * (slot.0 as usize)
+    FRONT * k as usize + ROW * slot.0 as usize
 }
 
 // The slot's row.
+#[tactic(auto, unfolding(crate::specs::Table::row_at))]
 pub fn load(table: &[u64], k: u32, slot: Slot) -> Row
     ensures { result ≡ row_at table.now k slot.0 }
 {
-    let i = slot.0 as usize;
     let a = place(k, slot);
-    let e = a + ROW;
-    if e <= table.len() {
-        row::unpack(table[i], &table[a..e])
-    } else {
-        Row::blank()
+    match table.get(a..a + ROW) {
+        Some(cells) => row::unpack(table[slot.0 as usize], cells.as_array().unwrap()),
+        None => Row::blank(),
     }
 }
 
 // Puts the row at the slot.
+#[tactic(auto, unfolding(crate::specs::Table::stored))]
 pub fn store(table: &mut [u64], k: u32, slot: Slot, row: Row)
     ensures { table.new ≡ stored table.old k slot.0 row }
 {
-    let i = slot.0 as usize;
     let a = place(k, slot);
     let e = a + ROW;
+    // No get_mut: what it lends says nothing of the cells afterwards.
     if e <= table.len() {
-        table[i] = row.key();
+        table[slot.0 as usize] = row.key();
         row.pack(&mut table[a..e]);
     }
 }
@@ -83,7 +75,7 @@ fn hint_place(k: u32, id: StreamId) -> usize
     ensures { result ≡ hint_place k id }
 {
     let n = k as usize;
-    n + (id.0 as usize) / 2 % (2 * n)
+    n + id.0 as usize / 2 % (2 * n)
 }
 
 // The slot that the id's hint says.
@@ -93,117 +85,73 @@ fn hint(table: &[u64], k: u32, id: StreamId) -> u32
     if k == 0 {
         return 0;
     }
-    let at = hint_place(k, id);
-    if at < table.len() {
-        let cell = table[at];
-        return row::low(cell);
-    }
-    0
+    let cell = table.get(hint_place(k, id)).copied().unwrap_or(0);
+    row::low(cell)
 }
 
 // Puts the row at the slot, and says so in its id's hint.
+#[tactic(auto, unfolding(crate::specs::Table::inserted))]
 pub fn insert(table: &mut [u64], k: u32, slot: Slot, row: Row)
     ensures { table.new ≡ inserted table.old k slot.0 row }
 {
-    let i = slot.0;
-    if i < k {
-        let s = row.stream;
-        let at = hint_place(k, s.id);
+    if slot.0 < k {
+        let at = hint_place(k, row.stream.id);
         store(table, k, slot, row);
+        // No get_mut: what it lends says nothing of the cells afterwards.
         if at < table.len() {
-            table[at] = i as u64;
+            table[at] = u64::from(slot.0);
         }
     }
 }
 
 // The first slot with this key.
-fn scan(table: &[u64], k: u32, key: u64) -> Which
+fn scan(table: &[u64], k: u32, key: u64) -> Option<Slot>
     ensures { result ≡ scanned table.now k key }
 {
-    let n = chunks::least(k as usize, table.len());
-    let mut i: usize = 0;
-    while i < n {
-        if table[i] == key {
-            return Which::At(Slot(i as u32));
-        }
-        i += 1;
-    }
-    Which::None
+    let n = (k as usize).min(table.len());
+    let i = table[..n].iter().position(|x| *x == key)?;
+    Some(Slot(i as u32))
 }
 
 // The lowest slot that is not in use.
-pub fn lowest_free(table: &[u64], k: u32) -> Which
+pub fn lowest_free(table: &[u64], k: u32) -> Option<Slot>
     ensures { result ≡ lowest_free table.now k }
 {
     scan(table, k, 0)
 }
 
 // The slot of the stream with this id, if it is in the table.
-pub fn find(table: &[u64], k: u32, id: StreamId) -> Which
+pub fn find(table: &[u64], k: u32, id: StreamId) -> Option<Slot>
     ensures { Finds table.now k id result }
 {
-    let key = (id.0 as u64) + 2;
+    let key = u64::from(id.0) + 2;
     let slot = hint(table, k, id);
-    let i = slot as usize;
-    if slot < k {
-        if i < table.len() {
-            if table[i] == key {
-                return Which::At(Slot(slot));
-            }
-        }
+    if slot < k && table.get(slot as usize).copied() == Some(key) {
+        return Some(Slot(slot));
     }
     scan(table, k, key)
 }
 
-fn is_own(mode: Mode, id: StreamId) -> bool
-    ensures { result ≡ is_own mode id }
-{
-    match mode {
-        Mode::Client => id.is_client(),
-        Mode::Server => id.is_server(),
-    }
-}
-
-// 1 for a row that counts as unacknowledged, 0 for another.
-fn weight(row: Row, mode: Mode) -> u32
-    ensures value { result ≡ one (is_unacknowledged mode row) }
-    ensures upper_bound { result ≤ 1 }
-{
-    let s = row.stream;
-    let id = s.id;
-    let state = s.state;
-    if row.listed {
-        if is_own(mode, id) {
-            if state.is_pending_ack() {
-                return 1;
-            }
-        }
-    }
-    0
-}
-
-// How many of our own streams in the table are Open and unacknowledged.
+// How many of our own streams in the table are Open and unacknowledged. A loop: filter and count took a fifth longer.
 pub fn ack_backlog(table: &[u64], k: u32, mode: Mode) -> u32
     ensures { result ≡ unacknowledged table.now k mode }
 {
     let mut count: u32 = 0;
-    let mut i: u32 = 0;
-    while i < k {
-        let row = load(table, k, Slot(i));
-        count += weight(row, mode);
-        i += 1;
+    for i in 0..k {
+        if load(table, k, Slot(i)).is_unacknowledged(mode) {
+            count += 1;
+        }
     }
     count
 }
 
 // Ends every row.
+#[tactic(auto, unfolding(crate::specs::Table::ended))]
 pub fn end_all(table: &mut [u64], k: u32)
     ensures { table.new ≡ ended table.old k k }
 {
-    let mut i: u32 = 0;
-    while i < k {
-        let row = load(&table[..], k, Slot(i)).end();
+    for i in 0..k {
+        let row = load(table, k, Slot(i)).end();
         store(table, k, Slot(i), row);
-        i += 1;
     }
 }

@@ -1,14 +1,16 @@
 // A row of the table: one slot's stream and the numbers of its queue, and the six cells that hold them.
 ghost use Rattle.std.specs.Prelude.{◌≡◌, ◌<◌, length};
-ghost use Rattle.table.specs.Rows.{low, high, both, flag_number, flag_of, state_number, state_of, mark, marks, stream_of, queue_of, row_of, cells_of, key_of, blank, end_stream, end_row};
+ghost use Rattle.rules.specs.State.{is_own};
+ghost use Rattle.table.specs.Rows.{low, high, both, flag_number, flag_of, state_number, state_of, marks, stream_of, queue_of, row_of, cells_of, key_of, blank, is_unacknowledged, end_row};
 
 use chunks::Queue;
 use flow_control::FlowController;
 use frame::header::StreamId;
+use rules::Mode;
 use stream::{Flag, State, Stream};
 
 // Whether the slot's handle is held, whether its stream is in the table, the stream, and its queue's numbers.
-#[derive(Clone, Copy)]
+#[derive(Clone, Copy, Debug, PartialEq, Eq)]
 pub struct Row {
     pub held: bool,
     pub listed: bool,
@@ -16,28 +18,29 @@ pub struct Row {
     pub queue: Queue,
 }
 
-// How many numbers have 32 bits: half a cell.
-const HALF: u64 = u32::MAX as u64 + 1;
+// The cells of a row.
+pub(crate) const ROW: usize = 6;
 
 pub(crate) fn low(cell: u64) -> u32
     ensures { result ≡ low cell }
 {
-    (cell % HALF) as u32
+    (cell & 0xffff_ffff) as u32
 }
 
 fn high(cell: u64) -> u32
     ensures { result ≡ high cell }
 {
-    (cell / HALF % HALF) as u32
+    (cell >> 32) as u32
 }
 
 // One cell of two numbers.
 fn both(l: u32, h: u32) -> u64
     ensures { result ≡ both l h }
 {
-    (l as u64) + HALF * (h as u64)
+    u64::from(l) + (u64::from(h) << 32)
 }
 
+// The numbers of flags and states are functions, not From: all these types are of other crates.
 fn flag_number(flag: Flag) -> u32
     ensures value { result ≡ flag_number flag }
     ensures upper_bound { result < 4 }
@@ -52,13 +55,11 @@ fn flag_number(flag: Flag) -> u32
 fn flag_of(n: u32) -> Flag
     ensures { result ≡ flag_of n }
 {
-    if n == 1 {
-        return Flag::Syn;
+    match n {
+        1 => Flag::Syn,
+        2 => Flag::Ack,
+        _ => Flag::None,
     }
-    if n == 2 {
-        return Flag::Ack;
-    }
-    Flag::None
 }
 
 fn state_number(state: State) -> u32
@@ -66,7 +67,7 @@ fn state_number(state: State) -> u32
     ensures upper_bound { result < 8 }
 {
     match state {
-        State::Open { acknowledged } => { if acknowledged { 1 } else { 0 } }
+        State::Open { acknowledged } => u32::from(acknowledged),
         State::SendClosed => 2,
         State::RecvClosed => 3,
         State::Closed => 4,
@@ -76,50 +77,35 @@ fn state_number(state: State) -> u32
 fn state_of(n: u32) -> State
     ensures { result ≡ state_of n }
 {
-    if n == 0 {
-        return State::Open {
+    match n {
+        0 => State::Open {
             acknowledged: false,
-        };
+        },
+        1 => State::Open { acknowledged: true },
+        2 => State::SendClosed,
+        3 => State::RecvClosed,
+        _ => State::Closed,
     }
-    if n == 1 {
-        return State::Open { acknowledged: true };
-    }
-    if n == 2 {
-        return State::SendClosed;
-    }
-    if n == 3 {
-        return State::RecvClosed;
-    }
-    State::Closed
-}
-
-fn mark(waits: bool) -> u32
-    ensures value { result ≡ mark waits }
-    ensures upper_bound { result < 2 }
-{
-    if waits { 1 } else { 0 }
 }
 
 // The flag, the state and the waits as one number.
 fn marks(s: Stream) -> u32
     ensures { result ≡ marks s }
 {
-    let flag = s.flag;
-    let state = s.state;
-    flag_number(flag) + 4 * state_number(state) + 32 * mark(s.reader) + 64 * mark(s.writer)
+    flag_number(s.flag)
+        + 4 * state_number(s.state)
+        + 32 * u32::from(s.reader)
+        + 64 * u32::from(s.writer)
 }
 
-fn stream_of(cells: &[u64]) -> Stream
-    requires { length cells.now ≡ 6 }
+fn stream_of(cells: &[u64; ROW]) -> Stream
     ensures { result ≡ stream_of cells.now }
 {
     let m = high(cells[0]);
-    let flag = flag_of(m % 4);
-    let state = state_of(m / 4 % 8);
     Stream {
         id: StreamId(low(cells[0])),
-        flag,
-        state,
+        flag: flag_of(m % 4),
+        state: state_of(m / 4 % 8),
         reader: m / 32 % 2 == 1,
         writer: m / 64 % 2 == 1,
         flow: FlowController {
@@ -131,8 +117,7 @@ fn stream_of(cells: &[u64]) -> Stream
     }
 }
 
-fn queue_of(cells: &[u64]) -> Queue
-    requires { length cells.now ≡ 6 }
+fn queue_of(cells: &[u64; ROW]) -> Queue
     ensures { result ≡ queue_of cells.now }
 {
     Queue {
@@ -144,36 +129,24 @@ fn queue_of(cells: &[u64]) -> Queue
 }
 
 // The row that a key and six cells say.
-pub(crate) fn unpack(key: u64, cells: &[u64]) -> Row
-    requires { length cells.now ≡ 6 }
+pub(crate) fn unpack(key: u64, cells: &[u64; ROW]) -> Row
     ensures { result ≡ row_of key cells.now }
 {
-    let stream = stream_of(cells);
-    let queue = queue_of(cells);
     Row {
         held: 0 < key,
         listed: 1 < key,
-        stream,
-        queue,
+        stream: stream_of(cells),
+        queue: queue_of(cells),
     }
 }
 
-// The stream after the connection's end: Closed if it was in the table.
-fn end_stream(s: Stream, listed: bool) -> Stream
-    ensures { result ≡ end_stream listed s }
+fn is_own(mode: Mode, id: StreamId) -> bool
+    ensures { result ≡ is_own mode id }
 {
-    let silent = Stream {
-        reader: false,
-        writer: false,
-        ..s
-    };
-    if listed {
-        return Stream {
-            state: State::Closed,
-            ..silent
-        };
+    match mode {
+        Mode::Client => id.is_client(),
+        Mode::Server => id.is_server(),
     }
-    silent
 }
 
 impl Row {
@@ -199,12 +172,7 @@ impl Row {
                     send_window: 0,
                 },
             },
-            queue: Queue {
-                head: 0,
-                tail: 0,
-                from: 0,
-                unread: 0,
-            },
+            queue: chunks::empty(),
         }
     }
 
@@ -212,31 +180,50 @@ impl Row {
         ensures { result ≡ key_of self }
     {
         if self.listed {
-            return (self.stream.id.0 as u64) + 2;
+            return u64::from(self.stream.id.0) + 2;
         }
-        if self.held { 1 } else { 0 }
+        u64::from(self.held)
     }
 
-    // Writes the row's six cells.
+    // Writes the row's six cells. Lent as an array they would say nothing afterwards, and an own array copied in costs 21 instructions.
     pub(crate) fn pack(self, cells: &mut [u64])
         requires { length cells.old ≡ 6 }
         ensures { cells.new ≡ cells_of self }
     {
-        let s = self.stream;
-        let q = self.queue;
-        cells[0] = both(s.id.0, marks(s));
-        cells[1] = s.flow.last_window_update;
-        cells[2] = both(s.flow.receive_window, s.flow.max_receive_window);
-        cells[3] = s.flow.send_window as u64;
-        cells[4] = both(q.head, q.tail);
-        cells[5] = both(q.from, q.unread);
+        let Row { stream, queue, .. } = self;
+        let flow = stream.flow;
+        *cells.as_mut_array().unwrap() = [
+            both(stream.id.0, marks(stream)),
+            flow.last_window_update,
+            both(flow.receive_window, flow.max_receive_window),
+            u64::from(flow.send_window),
+            both(queue.head, queue.tail),
+            both(queue.from, queue.unread),
+        ];
+    }
+
+    // Whether it is a stream of our own in the table, Open and unacknowledged.
+    pub(crate) fn is_unacknowledged(self, mode: Mode) -> bool
+        ensures { result ≡ is_unacknowledged mode self }
+    {
+        // The state before the parity: the other order makes a count of a table take 1.9 times as long.
+        self.listed && self.stream.state.is_pending_ack() && is_own(mode, self.stream.id)
     }
 
     // The row after the connection's end: out of the table, and nobody waits.
     pub fn end(self) -> Self
         ensures { result ≡ end_row self }
     {
-        let stream = end_stream(self.stream, self.listed);
+        let stream = Stream {
+            state: if self.listed {
+                State::Closed
+            } else {
+                self.stream.state
+            },
+            reader: false,
+            writer: false,
+            ..self.stream
+        };
         Row {
             listed: false,
             stream,

@@ -1,5 +1,6 @@
 -- How each call comes to the promise of its event: the sizes are right in a valid state, a slot above every K is not held, and
 -- only a read gives bytes. Assumes nothing.
+use Rattle.std.specs.Prelude.{Option}
 use mathlib.Core.Path.{◌≡◌, refl, sym, ap, subst, ◌∙◌}
 use mathlib.Core.Bool.{Bool, true, false, cond}
 use mathlib.Core.List.{List, ◌++◌, append_assoc}
@@ -10,7 +11,7 @@ use lib.ListN.{length, take, drop, length-drop}
 use lib.Seq.{length-take-le, take-append_seam}
 use borrow.Author.Tests.{eq-eqb, ltb-true}
 use Rattle.rules.specs.State.{Conn, entry, vacant}
-use Rattle.rules.specs.Ending.{Result, refuse}
+use Rattle.rules.specs.Ending.{Effect, refuse}
 use Rattle.rules.specs.Step.{Call, step, timed, holding}
 use Rattle.rules.specs.Step as rules
 use Rattle.rules.specs.declared.Reply.TheVariants as reply
@@ -26,7 +27,6 @@ use Rattle.connection_write.specs.Given.{sent_sized}
 use Rattle.connection_drop.specs.Given as dropping
 use Rattle.connection_frame.specs.Handles as frames
 use Rattle.rules.specs.Calls.{read_rules, write_rules, close_rules, drop_rules}
-use Rattle.stream.specs.declared.Sent.{Sent}
 use Rattle.connection_read.specs.Promises as reading
 use Rattle.trace_events.specs.Calls.{part, call_of}
 use Rattle.trace_events.specs.declared.Event.{Event}
@@ -34,13 +34,14 @@ use Rattle.trace_events.specs.declared.Kind.{Kind}
 use Rattle.trace_events.specs.declared.Kind.TheVariants as kinds
 use Rattle.trace.specs.Applies.{slot_of, bytes_read, Applied, Applies, sized}
 use Rattle.trace.proofs.Silent.{Silent, Headless, tick-silent, frame-silent, open-silent, open-headless, gone-silent, gone-headless, write-silent, close-silent, drop-silent}
+use Rattle.frame.specs.declared.header.Header.{Header}
 
 -- ---- a slot above every K
 
-out_of_range : (x : Conn) (i now : ℕ) (r : Result) → entry x.slots i ≡ vacant → timed x now (holding x i r) ≡ timed x now (refuse x reply.NotHeld)
+out_of_range : (x : Conn) (i now : ℕ) (r : Effect) → entry x.slots i ≡ vacant → timed x now (holding x i r) ≡ timed x now (refuse x reply.NotHeld)
 out_of_range x i now r e = rw e
 
-module _ (x : Conn) (now n : ℕ) (rule : ℕ → Result) where
+module _ (x : Conn) (now n : ℕ) (rule : ℕ → Effect) where
   -- the rule behind the handle's tests is the same at the slot's number and at the slot that the call is given
   slot_same : (4294967295 < n → entry x.slots n ≡ vacant) → entry x.slots 4294967295 ≡ vacant
       → timed x now (holding x (slot_of n) (rule (slot_of n))) ≡ timed x now (holding x n (rule n))
@@ -65,7 +66,7 @@ module _ (c : Connection) (t l p sent : List ℕ) where
 
     -- a call that gives no header leaves the twelve bytes
     headless : Headless (step (abs_of c t l p) x) → Follows c t l p (step (abs_of c t l p) x) d t' l' p' → sent ≡ sent_after d.answer.sent sent
-    headless n f = sym (ap (λ (h : Sent). sent_after h sent) (f.says.sent ∙ n.bare))
+    headless n f = sym (ap (λ (h : Option Header). sent_after h sent) (f.says.sent ∙ n.bare))
 
   module _ (v : Valid c t l p) where
     table-right : table_fits c.memory.slots (length t) ≡ true
@@ -87,7 +88,7 @@ module _ (c : Connection) (t l p sent : List ℕ) where
     far : (i : ℕ) → 1024 ≤ i → entry (abs_of c t l p).slots i ≡ vacant
     far i h = entry-beyond c.memory t l p v.memory i (omega (arith, v.memory.sized.most))
 
-    slots_same : (now n : ℕ) (rule : ℕ → Result)
+    slots_same : (now n : ℕ) (rule : ℕ → Effect)
         → timed (abs_of c t l p) now (holding (abs_of c t l p) (slot_of n) (rule (slot_of n))) ≡ timed (abs_of c t l p) now (holding (abs_of c t l p) n (rule n))
     slots_same now n rule = slot_same (abs_of c t l p) now n rule (λ h. far n (omega arith)) (far 4294967295 (omega arith))
 
@@ -102,7 +103,7 @@ module _ (c : Connection) (t l p sent : List ℕ) where
         → (Follows c t l p (step (abs_of c t l p) (call_of s e.now e.next kind)) d t' l' p' → sent' ≡ sent_after d.answer.sent sent)
         → Promised right c t l p y d t' l' p' → Applies c t l p sent s e d t' l' p' sent' bytes'
     made_as kind y right q none same fit n h k v w =
-        let f = subst (λ (r : Result). Follows c t l p r d t' l' p') (same v) (k.steps (fit v w) v) in
+        let f = subst (λ (r : Effect). Follows c t l p r d t' l' p') (same v) (k.steps (fit v w) v) in
         rw (q, none) (quiet (call_of s e.now e.next kind) d t' l' p' sent' bytes' f (h f) n)
 
     pub tick-applies : e.kind ≡ kinds.Tick → Promised (sent_sized c (length t) (length sent)) c t l p (rules.tick e.now) d t' l' p'
@@ -181,13 +182,13 @@ module _ (c : Connection) (t l p sent : List ℕ) where
         let same = asked-same e.now slot count room v in
         let counted = read_counted c t l p e.now (slot_of slot) (length (take count bytes)) d t' l' p f in
         rw q (record {
-          follows = subst (λ (r : Result). Follows c t l p r d t' l' p) same f;
+          follows = subst (λ (r : Effect). Follows c t l p r d t' l' p) same f;
           header = o.header;
           bytes =
               ap (λ (n : ℕ). take n (out' ++ drop count bytes)) counted
               ∙ front _ (take count bytes) (drop count bytes) (o.bytes (all_right v w) v)
-              ∙ ap (λ (r : Result). r.outcome.bytes) same;
-          all = counted ∙ ap (λ (r : Result). length r.outcome.bytes) same;
+              ∙ ap (λ (r : Effect). r.outcome.bytes) same;
+          all = counted ∙ ap (λ (r : Effect). length r.outcome.bytes) same;
         })
 
 -- in a valid state all that is lent has its size

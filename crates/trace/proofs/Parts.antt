@@ -13,8 +13,10 @@ use Rattle.rules.specs.State.{Conn}
 use Rattle.rules.specs.Step.{Call, step}
 use Rattle.trace_events.specs.Format.{event_at}
 use Rattle.trace_events.specs.Calls.{Found, call, short, bad, found_in, call_at, later, longest, Within}
-use Rattle.trace_events.specs.declared.Parsed.{Parsed}
-use Rattle.trace_events.specs.declared.Parsed.TheVariants as parsed
+use Rattle.std.specs.Prelude.{Ok, Err}
+use Rattle.trace_events.specs.Numbers.{Reading}
+use Rattle.trace_events.specs.declared.Event.{Event}
+use Rattle.trace_events.specs.declared.Unreadable.TheVariants.{Short, Bad}
 use Rattle.trace_events.proofs.Inside.{event_in}
 use Rattle.trace_events.proofs.More.{Settles, call-more}
 use Rattle.trace_events.proofs.Moved.{call-later}
@@ -34,10 +36,10 @@ pub call_in : (s : List ℕ) (at : ℕ) → Ahead s at (call_at s at)
 unfolding call_at
 call_in s at = go (event_at s at) (event_in s at)
   where
-    go : (e : Parsed) → Within s at (at + longest) e → Ahead s at (found_in s e)
-    go (parsed.Event e) h = (h.0.0, h.0.1)
-    go parsed.Short h = tt
-    go parsed.Bad h = tt
+    go : (r : Reading Event) → Within s at (at + longest) r → Ahead s at (found_in s r)
+    go (Ok e) h = (h.0.0, h.0.1)
+    go (Err Short) h = tt
+    go (Err Bad) h = tt
 
 -- a run stops inside the input
 pub runs_inside : (k : ℕ) (c : Conn) (s : List ℕ) (at n : ℕ) (room : Room) → at ≤ length s → (runs k c s at n room).at ≤ length s

@@ -13,12 +13,11 @@ use Rattle.rules.specs.State.{Conn, initial}
 use Rattle.rules.specs.Step.{step}
 use Rattle.rules.specs.declared.Settings.{Settings}
 use Rattle.rules.specs.declared.Config.{Config}
-use Rattle.rules.specs.declared.Checked.{Checked}
-use Rattle.rules.specs.declared.Checked.TheVariants as settings
+use Rattle.std.specs.Prelude.{Result, Ok, Err}
+use Rattle.trace_events.specs.Numbers.{Reading}
 use Rattle.trace_events.specs.Format.{settings_at}
 use Rattle.trace_events.specs.Calls.{Found, call, short, bad, call_at, Spans, PreambleIn}
 use Rattle.trace_events.specs.declared.Preamble.{Preamble}
-use Rattle.trace_events.specs.declared.Preamble.TheVariants as preamble
 use Rattle.trace_events.proofs.More.{Settles, call-more}
 use Rattle.trace_events.proofs.Settings.{settings_in}
 use Rattle.trace.specs.Runs.{Traced, Room, endless, is_full, less, event_line, stopped, wrote, on_found, runs, onward}
@@ -26,9 +25,10 @@ use Rattle.trace.specs.Output.{most, sizes_of, judged_as, begun_as, last_line, a
 use Rattle.trace.specs.declared.Stop.{Stop}
 use Rattle.trace.specs.declared.Stop.TheVariants as stop
 use Rattle.trace.specs.declared.ends.Sizes.{Sizes}
-use Rattle.trace.specs.declared.ends.Begun.TheVariants as begun
+use Rattle.trace.specs.declared.ends.Begun.{Begun}
 use Rattle.trace.proofs.Parts.{runs_inside, runs-from, goes_on}
 use Rattle.trace.proofs.Whole.{fine-output}
+use Rattle.rules.specs.declared.Setting.{Setting}
 
 -- ---- a run over a part
 
@@ -135,36 +135,32 @@ last_remains b n c s at room h more l =
 -- ---- the settings
 
 -- an input with no event
-pub none_reached : (s : List ℕ) (why : Stop) → begun_as (settings_at s) ≡ begun.Stop why → output s ≡ last_line why 0 0 0 0
+pub none_reached : (s : List ℕ) (why : Stop) → begun_as (settings_at s) ≡ Err why → output s ≡ last_line why 0 0 0 0
 none_reached s why e = go (settings_at s) refl e
   where
-    the-reason : (a b : Stop) → begun.Stop a ≡ begun.Stop b → last_line a 0 0 0 0 ≡ last_line b 0 0 0 0
+    the-reason : (a b : Stop) → ◌≡◌ {A = Result Begun Stop} (Err a) (Err b) → last_line a 0 0 0 0 ≡ last_line b 0 0 0 0
     the-reason a b q = let z : a ≡ b = cc in rw z
 
-    judged : (t : Settings) (next : ℕ) (x : Checked) → judged_as x t next ≡ begun.Stop why → output_with x s next ≡ last_line why 0 0 0 0
-    judged t next (settings.Wrong w) f = the-reason (stop.Wrong w) why f
-    judged t next (settings.Fine k) f = absurd (let z : ◌≡◌ {A = ℕ} 0 1 = cc in omega arith)
+    judged : (t : Settings) (next : ℕ) (x : Result Config Setting) → judged_as x t next ≡ Err why → output_with x s next ≡ last_line why 0 0 0 0
+    judged t next (Err w) f = the-reason (stop.Wrong w) why f
+    judged t next (Ok k) f = absurd (let z : ◌≡◌ {A = ℕ} 0 1 = cc in omega arith)
 
-    go : (x : Preamble) → settings_at s ≡ x → begun_as x ≡ begun.Stop why → output s ≡ last_line why 0 0 0 0
-    go (preamble.Settings t next) q f = rw q (judged t next (checked_within most t) f)
-    go preamble.Short q f = rw q (the-reason stop.Bad why f)
-    go preamble.Bad q f = rw q (the-reason stop.Bad why f)
+    go : (x : Reading Preamble) → settings_at s ≡ x → begun_as x ≡ Err why → output s ≡ last_line why 0 0 0 0
+    go (Ok p) q f = rw q (judged p.settings p.next (checked_within most p.settings) f)
+    go (Err e) q f = rw q (the-reason stop.Bad why f)
 
 -- settings that a trace may have: where they end, what they ask for, and what is printed, whatever comes after
 pub record Prepared (s : List ℕ) (t : Settings) (z : Sizes) (next : ℕ) : Type 0 where
   pub config : Config
-  pub fine : checked_within most t ≡ settings.Fine config
+  pub fine : checked_within most t ≡ Ok config
   pub sizes : z ≡ sizes_of config
   pub inside : next ≤ length s
   pub brief : next ≤ 100
   pub prints : (more : List ℕ) → output (s ++ more) ≡ remaining next 0 (initial config) (drop next s ++ more)
 
-pub events_reached : (s : List ℕ) (t : Settings) (z : Sizes) (next : ℕ) → begun_as (settings_at s) ≡ begun.Fine t z next → Prepared s t z next
-events_reached s t z next e = go (settings_at s) refl (settings_in s) e
+pub events_reached : (s : List ℕ) (b : Begun) → begun_as (settings_at s) ≡ Ok b → Prepared s b.settings b.sizes b.next
+events_reached s b e = go (settings_at s) refl (settings_in s) e
   where
-    other : {A : Type 0} (why : Stop) → begun.Stop why ≡ begun.Fine t z next → A
-    other why f = absurd (let z : ◌≡◌ {A = ℕ} 0 1 = cc in omega arith)
-
     first : (r : Traced) (size : ℕ) → printed r size ≡ printed_on 0 0 r size
     first r size =
         let y : r.at ≡ 0 + r.at = omega arith in
@@ -172,11 +168,11 @@ events_reached s t z next e = go (settings_at s) refl (settings_in s) e
         ap (λ (b : ℕ). r.lines ++ last_line r.why (size - r.at) b r.applied r.after.growth) y
         ∙ ap (λ (n : ℕ). r.lines ++ last_line r.why (size - r.at) (0 + r.at) n r.after.growth) z
 
-    made : (k : Config) → settings_at s ≡ preamble.Settings t next → Spans s 0 100 next → checked_within most t ≡ settings.Fine k → z ≡ sizes_of k → Prepared s t z next
-    made k q h f w = record {
+    made : (t : Settings) (next : ℕ) (k : Config) → settings_at s ≡ Ok (record { settings = t; next = next }) → Spans s 0 100 next → checked_within most t ≡ Ok k → Prepared s t (sizes_of k) next
+    made t next k q h f = record {
       config = k;
       fine = f;
-      sizes = w;
+      sizes = refl;
       inside = h.1;
       brief = h.2;
       prints = λ more.
@@ -189,15 +185,12 @@ events_reached s t z next e = go (settings_at s) refl (settings_in s) e
           ∙ ap (remaining next 0 (initial k)) (drop-append-le next s more h.1);
     }
 
-    judged : (u : Settings) (m : ℕ) (x : Checked) → checked_within most u ≡ x → settings_at s ≡ preamble.Settings u m → Spans s 0 100 m → judged_as x u m ≡ begun.Fine t z next → Prepared s t z next
-    judged u m (settings.Wrong w) f q h i = other (stop.Wrong w) i
-    judged u m (settings.Fine k) f q h i =
-        let a : u ≡ t = cc in
-        let b : m ≡ next = cc in
-        let w : z ≡ sizes_of k = cc in
-        made k (rw (a, b) at q) (rw b at h) (rw a at f) w
+    judged : (t : Settings) (next : ℕ) (x : Result Config Setting) → checked_within most t ≡ x → settings_at s ≡ Ok (record { settings = t; next = next }) → Spans s 0 100 next → judged_as x t next ≡ Ok b → Prepared s b.settings b.sizes b.next
+    judged t next (Err w) f q h i = absurd (let z : ◌≡◌ {A = ℕ} 0 1 = cc in omega arith)
+    judged t next (Ok k) f q h i =
+        let z : ◌≡◌ {A = Begun} (record { settings = t; sizes = sizes_of k; next = next }) b = cc in
+        subst (λ (x : Begun). Prepared s x.settings x.sizes x.next) z (made t next k q h f)
 
-    go : (x : Preamble) → settings_at s ≡ x → PreambleIn s x → begun_as x ≡ begun.Fine t z next → Prepared s t z next
-    go (preamble.Settings u m) q h i = judged u m (checked_within most u) refl q h i
-    go preamble.Short q h i = other stop.Bad i
-    go preamble.Bad q h i = other stop.Bad i
+    go : (x : Reading Preamble) → settings_at s ≡ x → PreambleIn s x → begun_as x ≡ Ok b → Prepared s b.settings b.sizes b.next
+    go (Ok p) q h i = judged p.settings p.next (checked_within most p.settings) refl q h i
+    go (Err e) q h i = absurd (let z : ◌≡◌ {A = ℕ} 0 1 = cc in omega arith)

@@ -1,22 +1,17 @@
 -- A run, event by event: what was reached, and what is left of the definition's run. Assumes nothing.
 use mathlib.Core.Path.{◌≡◌, refl, sym, ap, subst, ◌∙◌}
-use mathlib.Core.Bool.{Bool, true, false}
+use mathlib.Core.Bool.{Bool, true}
 use mathlib.Core.Logic.{inl, inr}
 use mathlib.Core.List.{List, [], ◌++◌, append_assoc, append-nil}
 use Prim.Native.Nat.{ℕ, suc, ◌+◌, ◌-◌, ◌≤◌, ◌<◌}
 use native.Mathlib.Nat.{add-zero}
 use native.Mathlib.Omega.{arith}
-use lib.Dec.{eqb}
 use lib.ListN.{length, length-append}
-use borrow.Author.Tests.{eqb-true}
 use lib.Seq.{sets}
-use Rattle.rules.proofs.Lists.{never, both}
+use Rattle.rules.proofs.Lists.{never}
 use Rattle.connection.specs.Abstract.{abs_of, Valid}
-use Rattle.connection.specs.Promises as connection
 use Rattle.connection.specs.declared.Connection.{Connection}
 use Rattle.trace_lines.proofs.Stored.{sets_then}
-use Rattle.memory.specs.Counts.{fits}
-use Rattle.trace.specs.Applies.{sized}
 use Rattle.trace.specs.Runs.{Traced, stopped, wrote, runs, resumed}
 use Rattle.trace.specs.Turns.{Lacks, Halts, Continues, Goes, RanAs, runs_from, Bounds, Runs, Reached}
 use Rattle.trace.specs.declared.Stop.{Stop}
@@ -35,37 +30,13 @@ resumed-wrote lines count line q =
 more : (allowance applied : ℕ) → applied < allowance → allowance - applied ≡ suc (allowance - (applied + 1))
 more allowance applied h = omega arith
 
-pub less-left : (allowance applied : ℕ) → applied < allowance → allowance - (applied + 1) < allowance - applied
-less-left allowance applied h = omega arith
-
 none : (allowance applied : ℕ) → allowance ≤ applied → allowance - applied ≡ 0
 none allowance applied h = omega arith
 
--- what is lent keeps its size
-pub record Kept (t l p sent bytes t' l' p' sent' bytes' : List ℕ) : Type 0 where
-  pub table : length t' ≡ length t
-  pub links : length l' ≡ length l
-  pub pool : length p' ≡ length p
-  pub header : length sent' ≡ length sent
-  pub scratch : length bytes' ≡ length bytes
-
-then-kept : {t l p sent bytes t' l' p' sent' bytes' t'' l'' p'' sent'' bytes'' : List ℕ} → Kept t l p sent bytes t' l' p' sent' bytes' → Kept t' l' p' sent' bytes' t'' l'' p'' sent'' bytes''
-    → Kept t l p sent bytes t'' l'' p'' sent'' bytes''
-then-kept a b = record {
-  table = b.table ∙ a.table;
-  links = b.links ∙ a.links;
-  pool = b.pool ∙ a.pool;
-  header = b.header ∙ a.header;
-  scratch = b.scratch ∙ a.scratch;
-}
-
 -- all that holds where a loop's turn begins
-pub record Standing (c : Connection) (t l p sent bytes s o : List ℕ) (place : Place) (allowance : ℕ) (d : Connection) (t' l' p' sent' bytes' o' : List ℕ) (at applied put : ℕ) : Type 0 where
+pub record Standing (c : Connection) (t l p s o : List ℕ) (place : Place) (allowance : ℕ) (d : Connection) (t' l' p' o' : List ℕ) (at applied put : ℕ) : Type 0 where
   pub bounds : Bounds s o place allowance at applied put
-  pub header : length sent' ≡ 12
-  pub scratch : length bytes' ≡ 16384
   pub size : length o' ≡ length o
-  pub kept : Kept t l p sent bytes t' l' p' sent' bytes'
   pub reached : Valid c t l p → Reached c t l p s o place allowance d t' l' p' o' at applied put
 
 module _ (c : Connection) (t l p s o : List ℕ) (place : Place) (allowance : ℕ) where
@@ -89,17 +60,6 @@ module _ (c : Connection) (t l p s o : List ℕ) (place : Place) (allowance : �
     written = omega arith;
     room = λ h. h;
     moved = inl (refl, refl, refl);
-  }
-
-  pub standing : (sent bytes : List ℕ) → length sent ≡ 12 → length bytes ≡ 16384
-      → Standing c t l p sent bytes s o place allowance c t l p sent bytes o place.at place.applied place.put
-  standing sent bytes h b = record {
-    bounds = unmoved;
-    header = h;
-    scratch = b;
-    size = refl;
-    kept = record { table = refl; links = refl; pool = refl; header = refl; scratch = refl };
-    reached = begun;
   }
 
   module _ (d : Connection) (t' l' p' o' : List ℕ) (at applied put : ℕ) where
@@ -150,11 +110,10 @@ module _ (c : Connection) (t l p s o : List ℕ) (place : Place) (allowance : �
               ≡ wrote k.line (runs_from d'' t'' l'' p'' s o'' (record { at = after; applied = applied + 1; put = end }) allowance)
           went = rw (more allowance applied h, same) (k.goes (allowance - (applied + 1)) applied refl)
 
-      pub turned : (sent bytes sent' bytes' sent'' bytes'' : List ℕ) → Kept t' l' p' sent' bytes' t'' l'' p'' sent'' bytes''
-          → Standing c t l p sent bytes s o place allowance d t' l' p' sent' bytes' o' at applied put
+      pub turned : Standing c t l p s o place allowance d t' l' p' o' at applied put
           → Goes d t' l' p' s at (applied + 1) o' put d'' after end t'' l'' p'' o''
-          → Standing c t l p sent bytes s o place allowance d'' t'' l'' p'' sent'' bytes'' o'' after (applied + 1) end
-      turned sent bytes sent' bytes' sent'' bytes'' e x k = record {
+          → Standing c t l p s o place allowance d'' t'' l'' p'' o'' after (applied + 1) end
+      turned x k = record {
         bounds = record {
           counted = omega (arith, x.bounds.counted);
           forward = omega (arith, x.bounds.forward, k.forward);
@@ -164,26 +123,15 @@ module _ (c : Connection) (t l p s o : List ℕ) (place : Place) (allowance : �
           room = λ w. omega (arith, k.room, x.size);
           moved = inr (omega (arith, x.bounds.counted), omega (arith, h));
         };
-        header = e.header ∙ x.header;
-        scratch = e.scratch ∙ x.scratch;
         size = same ∙ x.size;
-        kept = then-kept x.kept e;
         reached = λ v. onto (x.reached v) (k.steps (x.reached v).valid);
       }
 
 -- ---- the answers of a run
 
-module _ (sz : Bool) (c : Connection) (t l p sent bytes s o : List ℕ) (place : Place) (allowance : ℕ) where
-  pub unsized-runs : sz ≡ false → Runs sz c t l p s o place allowance (record { connection = c; place = place; stop = stop.Size }) t l p o
-  unsized-runs e = record {
-    steps = λ r. never (sym r ∙ e);
-    wrong = λ w. (refl, refl, refl, refl, refl);
-    bounds = unmoved c t l p s o place allowance;
-    lacks = tt;
-  }
-
-  module _ (e : sz ≡ true) (d : Connection) (t' l' p' sent' bytes' o' : List ℕ) (at applied put : ℕ)
-      (x : Standing c t l p sent bytes s o place allowance d t' l' p' sent' bytes' o' at applied put) where
+module _ (sz : Bool) (c : Connection) (t l p s o : List ℕ) (place : Place) (allowance : ℕ) where
+  module _ (e : sz ≡ true) (d : Connection) (t' l' p' o' : List ℕ) (at applied put : ℕ)
+      (x : Standing c t l p s o place allowance d t' l' p' o' at applied put) where
     pub spent-runs : allowance ≤ applied
         → Runs sz c t l p s o place allowance (record { connection = d; place = record { at = at; applied = applied; put = put }; stop = stop.Spent }) t' l' p' o'
     spent-runs h = record {
@@ -201,10 +149,3 @@ module _ (sz : Bool) (c : Connection) (t l p sent bytes s o : List ℕ) (place :
       bounds = x.bounds;
       lacks = subst (λ (n : ℕ). Lacks why (length s) at n put) x.size k.lacks;
     }
-
--- the right sizes
-pub sizes : (c : Connection) (t l p sent bytes : ℕ) → sized c t l p sent bytes ≡ true → (sent ≡ 12) × (bytes ≡ 16384)
-sizes c t l p sent bytes e =
-    let q = both (connection.sized c t l p sent) (eqb bytes 16384) e in
-    let r = both (fits c.memory.slots c.memory.pool t l p) (eqb sent 12) q.0 in
-    (eqb-true sent 12 r.1, eqb-true bytes 16384 q.1)

@@ -1,4 +1,5 @@
 -- Only a read gives bytes, and neither an open nor a peer gone gives a header. Assumes nothing.
+use Rattle.std.specs.Prelude.{Option, Some, None, Result, Ok, Err}
 use mathlib.Core.Path.{◌≡◌, refl}
 use mathlib.Core.Bool.{true}
 use mathlib.Core.List.{List, []}
@@ -7,19 +8,12 @@ use lib.Dec.{eqb, ltb, leb}
 use lib.ListN.{length}
 use Rattle.frame.specs.Header.{contains, syn, ack, rst, protocol_error, internal_error, initial_window}
 use Rattle.frame.specs.Wire.{decoded}
-use Rattle.frame.specs.declared.header.Decoded.{Decoded}
-use Rattle.frame.specs.declared.header.Decoded.TheVariants as found
+use Rattle.frame.specs.declared.header.HeaderDecodeError.{HeaderDecodeError}
+use Rattle.frame.specs.declared.header.HeaderDecodeError.TheVariants as found
 use Rattle.frame.specs.declared.header.Header.{Header}
 use Rattle.frame.specs.declared.header.StreamId.{StreamId}
 use Rattle.frame.specs.declared.header.Tag.{Tag}
 use Rattle.frame.specs.declared.header.Tag.TheVariants as tag
-use Rattle.rtt.specs.declared.NextPing.{NextPing}
-use Rattle.rtt.specs.declared.NextPing.TheVariants as ask
-use Rattle.rtt.specs.declared.Pong.{Pong}
-use Rattle.rtt.specs.declared.Pong.TheVariants.{Accepted, Unexpected}
-use Rattle.stream.specs.declared.Received.{Received}
-use Rattle.stream.specs.declared.Received.TheVariants.{Taken, ProtocolError}
-use Rattle.stream.specs.declared.Sent.TheVariants.{Nothing}
 use Rattle.stream.specs.declared.Stream.{Stream}
 use Rattle.stream.specs.declared.Written.{Written}
 use Rattle.stream.specs.declared.Written.TheVariants as written
@@ -28,7 +22,7 @@ use Rattle.flow_control.specs.Windows.{top}
 use Rattle.rules.specs.Settings.{last_time}
 use Rattle.rules.specs.Replies.{bare}
 use Rattle.rules.specs.State.{Entry, Conn, entry, with_open_wait, lowest_free, listed_count, room, is_remote, unacknowledged}
-use Rattle.rules.specs.Ending.{Result, gives, refuse, end}
+use Rattle.rules.specs.Ending.{Effect, gives, refuse, end}
 use Rattle.rules.specs.declared.Reply.{Reply}
 use Rattle.rules.specs.declared.Reply.TheVariants as reply
 use Rattle.rules.specs.Frames.{Acked, ack_step, is_known, answers_ping, body_length, on_reset, make_at, make, syn_rules, syn_data, syn_update, take_at, known_data, known_update, data_rules, update_rules, pong_rules, ping_rules, frame_rules, on_header}
@@ -36,14 +30,18 @@ use Rattle.rules.specs.Calls.{open_at, open_rules, write_with, write_rules, clos
 use Rattle.rules.specs.Step.{on_decoded, step, timed, live, holding}
 use Rattle.rules.specs.Step as rules
 use Rattle.rules.proofs.Lists.{either}
+use Rattle.rtt.specs.declared.UnexpectedPong.{UnexpectedPong}
+use Rattle.rtt.specs.declared.Rtt.{Rtt}
+use Rattle.flow_control.specs.declared.InvalidWindowUpdate.{InvalidWindowUpdate}
+use Rattle.stream.specs.declared.Woken.{Woken}
 
 -- no bytes are given
-pub record Silent (r : Result) : Type 0 where
+pub record Silent (r : Effect) : Type 0 where
   pub none : r.outcome.bytes ≡ []
 
 -- no header is given
-pub record Headless (r : Result) : Type 0 where
-  pub bare : r.outcome.header ≡ Nothing
+pub record Headless (r : Effect) : Type 0 where
+  pub bare : r.outcome.header ≡ None
 
 -- ---- frames
 
@@ -57,17 +55,17 @@ unfolding make_at
 make_silent a s body nowhere = record { none = refl }
 make_silent a s body (at i) = either Silent (ltb (room a.conn) (length body)) (record { none = refl }) (record { none = refl })
 
-syn_silent : (a : Acked) (id : StreamId) (place : Place) (full : ℕ) (next : Result) → Silent next → Silent (syn_rules a id place full next)
+syn_silent : (a : Acked) (id : StreamId) (place : Place) (full : ℕ) (next : Effect) → Silent next → Silent (syn_rules a id place full next)
 unfolding syn_rules
 syn_silent a id place full next n =
     either Silent (is_remote a.conn.config.mode id)
     (either Silent (is_known place) (record { none = refl }) (either Silent (leb a.conn.config.max_num_streams (listed_count a.conn.slots)) (record { none = refl }) n))
     (record { none = refl })
 
-take_silent : (i : ℕ) (a : Acked) (h : Header) (body : List ℕ) (r : Received) → Silent (take_at i a h body r)
+take_silent : (i : ℕ) (a : Acked) (h : Header) (body : List ℕ) (r : Result Woken InvalidWindowUpdate) → Silent (take_at i a h body r)
 unfolding take_at
-take_silent i a h body ProtocolError = record { none = refl }
-take_silent i a h body (Taken s w) = either Silent (ltb (room a.conn) (length body)) (record { none = refl }) (record { none = refl })
+take_silent i a h body (Err _) = record { none = refl }
+take_silent i a h body (Ok k) = either Silent (ltb (room a.conn) (length body)) (record { none = refl }) (record { none = refl })
 
 module _ (a : Acked) (h : Header) where
   known-data-silent : (body : List ℕ) (place : Place) → Silent (known_data a h body place)
@@ -96,10 +94,10 @@ module _ (a : Acked) (h : Header) where
       (syn_silent a h.stream_id place protocol_error _ (either Silent (ltb top (h.length.0 + initial_window)) (record { none = refl }) (make_silent a _ [] (lowest_free a.conn.slots))))
       (known-update-silent place))
 
-pong_silent : (c : Conn) (p : Pong) → Silent (pong_rules c p)
+pong_silent : (c : Conn) (p : Result Rtt UnexpectedPong) → Silent (pong_rules c p)
 unfolding pong_rules
-pong_silent c Unexpected = record { none = refl }
-pong_silent c (Accepted p) = record { none = refl }
+pong_silent c (Err _) = record { none = refl }
+pong_silent c (Ok p) = record { none = refl }
 
 type_silent : (t : Tag) (c : Conn) (h : Header) (body : List ℕ) (place : Place) (now : ℕ) → Silent (frame_rules t c h body place now)
 unfolding frame_rules ping_rules
@@ -115,7 +113,7 @@ header_silent c h body now = either Silent (eqb (length body) (body_length h.tag
 
 -- ---- calls
 
-module _ (P : Result → Type 0) (c : Conn) (now : ℕ) (r : Result) where
+module _ (P : Effect → Type 0) (c : Conn) (now : ℕ) (r : Effect) where
   -- behind the tests of the time and of the end, or of the handle
   while-live : ((why : Reply) → P (refuse c why)) → P r → P (timed c now (live c r))
   while-live w p = either P (ltb last_time now) (w reply.Time) (either P c.ended (w reply.Closed) p)
@@ -130,28 +128,28 @@ refuse_headless : (c : Conn) (why : Reply) → Headless (refuse c why)
 refuse_headless c why = record { bare = refl }
 
 module _ (c : Conn) (now : ℕ) where
-  decoded-silent : (d : Decoded) (body : List ℕ) → Silent (on_decoded d c body now)
+  decoded-silent : (d : Result Header HeaderDecodeError) (body : List ℕ) → Silent (on_decoded d c body now)
   unfolding on_decoded
-  decoded-silent found.Size body = record { none = refl }
-  decoded-silent (found.Version v) body = while-live Silent c now _ (refuse_silent c) (record { none = refl })
-  decoded-silent (found.Type t) body = while-live Silent c now _ (refuse_silent c) (record { none = refl })
-  decoded-silent (found.Header h) body = while-live Silent c now _ (refuse_silent c) (header_silent c h body now)
+  decoded-silent (Err found.Size) body = record { none = refl }
+  decoded-silent (Err (found.Version v)) body = while-live Silent c now _ (refuse_silent c) (record { none = refl })
+  decoded-silent (Err (found.Type t)) body = while-live Silent c now _ (refuse_silent c) (record { none = refl })
+  decoded-silent (Ok h) body = while-live Silent c now _ (refuse_silent c) (header_silent c h body now)
 
   pub frame-silent : (head body : List ℕ) → Silent (step c (rules.frame now head body))
   unfolding step
   frame-silent head body = decoded-silent (decoded head) body
 
-  out-silent : (p : NextPing) (d : Conn) → Silent (ping_out p d)
+  out-silent : (p : Option Header) (d : Conn) → Silent (ping_out p d)
   unfolding ping_out
-  out-silent ask.None d = record { none = refl }
-  out-silent (ask.Ping h) d = record { none = refl }
+  out-silent None d = record { none = refl }
+  out-silent (Some h) d = record { none = refl }
 
   pub tick-silent : Silent (step c (rules.tick now))
   unfolding step tick_rules
   tick-silent = while-live Silent c now _ (refuse_silent c) (out-silent _ _)
 
   -- an open's tests, and then a slot
-  opens : (P : Result → Type 0) → P (end c reply.TooManyStreams) → P (gives (bare reply.Wait) (with_open_wait c true)) → P (end c reply.NoMoreStreamIds)
+  opens : (P : Effect → Type 0) → P (end c reply.TooManyStreams) → P (gives (bare reply.Wait) (with_open_wait c true)) → P (end c reply.NoMoreStreamIds)
       → ((place : Place) → P (open_at place c now)) → P (open_rules c now)
   unfolding open_rules
   opens P many wait ids slot =

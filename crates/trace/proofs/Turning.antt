@@ -1,4 +1,5 @@
 -- One event: where it is not applied a run stops, and where it is, a run goes on after its line. Assumes nothing.
+use Rattle.std.specs.Prelude.{Option, Some, None}
 use mathlib.Core.Path.{◌≡◌, refl, sym, ap, ◌∙◌}
 use mathlib.Core.List.{List}
 use Prim.Native.Nat.{ℕ, suc, ◌+◌, ◌-◌, ◌≤◌, ◌<◌, min}
@@ -6,10 +7,9 @@ use native.Mathlib.Omega.{arith}
 use lib.ListN.{length, take, length-take}
 use lib.Seq.{take_all}
 use borrow.Author.Tests.{eq-eqb, lt-ltb, le-ltb}
+use Rattle.std.specs.Prelude.{Ok, Err}
 use Rattle.frame.proofs.Wire.{length-wire}
 use Rattle.frame.specs.Wire.{wire}
-use Rattle.stream.specs.declared.Sent.{Sent}
-use Rattle.stream.specs.declared.Sent.TheVariants.{Frame, Nothing}
 use Rattle.rules.specs.Replies.{Outcome}
 use Rattle.rules.specs.State.{Conn}
 use Rattle.rules.specs.Step.{step}
@@ -22,31 +22,31 @@ use Rattle.trace_events.specs.Format.{event_at}
 use Rattle.trace_events.specs.Calls.{call, call_on, call_at, longest, Spans, Lies}
 use Rattle.trace_events.specs.declared.Event.{Event}
 use Rattle.trace_events.specs.declared.Kind.{Kind}
-use Rattle.trace_events.specs.declared.Parsed.TheVariants as parsed
+use Rattle.trace_events.specs.declared.Unreadable.{Unreadable}
+use Rattle.trace_events.specs.declared.Unreadable.TheVariants.{Short, Bad}
 use Rattle.trace_events.proofs.Inside.{event_in}
 use Rattle.trace_lines.specs.Writing.{Stores, longest_line}
 use Rattle.trace.specs.Runs.{Room, only, header_bytes, event_line, stopped, wrote, runs}
 use Rattle.trace.specs.Applies.{bytes_read, Applies}
-use Rattle.trace.specs.Turns.{header_size, shown_line, Goes}
+use Rattle.trace.specs.Turns.{header_size, shown_line, stop_of, Lacks, Goes}
 use Rattle.trace.specs.declared.Stop.TheVariants as stop
+use Rattle.frame.specs.declared.header.Header.{Header}
 
 -- ---- no event
 
 module _ (s : List ℕ) (at : ℕ) where
-  pub short-halts : event_at s at ≡ parsed.Short → (c : Conn) (k n : ℕ) (room : Room) → runs (suc k) c s at n room ≡ stopped c at stop.Short
+  pub none-halts : (why : Unreadable) → event_at s at ≡ Err why → (c : Conn) (k n : ℕ) (room : Room) → runs (suc k) c s at n room ≡ stopped c at (stop_of why)
   unfolding runs call_at
-  short-halts h c k n room = rw h
+  none-halts Short h c k n room = rw h
+  none-halts Bad h c k n room = rw h
 
-  pub bad-halts : event_at s at ≡ parsed.Bad → (c : Conn) (k n : ℕ) (room : Room) → runs (suc k) c s at n room ≡ stopped c at stop.Bad
-  unfolding runs call_at
-  bad-halts h c k n room = rw h
-
-  pub short-lacks : event_at s at ≡ parsed.Short → length s < at + longest
-  short-lacks h = rw h at (event_in s at)
+  pub none-lacks : (why : Unreadable) → event_at s at ≡ Err why → (room put : ℕ) → Lacks (stop_of why) (length s) at room put
+  none-lacks Short h room put = rw h at (event_in s at)
+  none-lacks Bad h room put = tt
 
   -- ---- an event
 
-  module _ (e : Event) (h : event_at s at ≡ parsed.Event e) where
+  module _ (e : Event) (h : event_at s at ≡ Ok e) where
     called : call_at s at ≡ call (call_on s e) e.next
     unfolding call_at
     called = rw h
@@ -66,11 +66,11 @@ module _ (s : List ℕ) (at : ℕ) where
 
 -- ---- what a line shows
 
-header_shown : (h : Sent) (sent sent' : List ℕ) → length sent ≡ 12 → sent' ≡ sent_after h sent → take (header_size h) sent' ≡ header_bytes h
-header_shown (Frame h) sent sent' w e =
-    let f : sent_after (Frame h) sent ≡ wire h = rw (eq-eqb (length sent) 12 w) in
+header_shown : (h : Option Header) (sent sent' : List ℕ) → length sent ≡ 12 → sent' ≡ sent_after h sent → take (header_size h) sent' ≡ header_bytes h
+header_shown (Some h) sent sent' w e =
+    let f : sent_after (Some h) sent ≡ wire h = rw (eq-eqb (length sent) 12 w) in
     ap (take 12) (e ∙ f) ∙ take_all 12 (wire h) (omega (arith, length-wire h))
-header_shown Nothing sent sent' w e = refl
+header_shown None sent sent' w e = refl
 
 bytes_shown : (n : ℕ) (bytes given : List ℕ) → take n bytes ≡ given → n ≡ length given → take (min n (length bytes)) bytes ≡ given
 bytes_shown n bytes given e l =
@@ -83,7 +83,7 @@ unfolding event_line
 line_shown number k a sent' bytes' o says h b = rw (h, b, says.reply, says.slot, says.value, says.wakes)
 
 module _ (c : Connection) (t l p sent s : List ℕ) (at number : ℕ) (o : List ℕ) (put : ℕ) (e : Event) (end : ℕ) (d : Done) (t' l' p' sent' bytes' o' : List ℕ)
-    (h : event_at s at ≡ parsed.Event e) (w : length sent ≡ 12) (room : longest_line ≤ length o - put)
+    (h : event_at s at ≡ Ok e) (w : length sent ≡ 12) (room : longest_line ≤ length o - put)
     (a : Applies c t l p sent s e d t' l' p' sent' bytes') (written : Stores o put (shown_line number e.kind d.answer sent' bytes') o' end) (inside : end ≤ length o) where
   shown : Valid c t l p → shown_line number e.kind d.answer sent' bytes' ≡ event_line number (step (abs_of c t l p) (call_on s e)).outcome
   shown v =

@@ -9,6 +9,7 @@ use native.Mathlib.Omega.{arith}
 use lib.ListN.{length, drop, length-append}
 use lib.Seq.{drop-append-le}
 use borrow.Author.Tests.{lt-ltb}
+use Rattle.std.specs.Prelude.{Ok, Err}
 use Rattle.rules.proofs.Lists.{either}
 use Rattle.rules.specs.Settings.{holds, setting_number, checked_within, FirstWrong}
 use Rattle.rules.specs.State.{Conn, initial}
@@ -16,11 +17,11 @@ use Rattle.rules.specs.Step.{step}
 use Rattle.rules.specs.declared.Settings.{Settings}
 use Rattle.rules.specs.declared.Config.{Config}
 use Rattle.rules.specs.declared.Setting.{Setting}
-use Rattle.rules.specs.declared.Checked.TheVariants as settings
+use Rattle.trace_events.specs.Numbers.{Reading}
 use Rattle.trace_events.specs.Format.{settings_at}
 use Rattle.trace_events.specs.Calls.{Found, call, short, bad, call_at, PreambleIn}
 use Rattle.trace_events.specs.declared.Preamble.{Preamble}
-use Rattle.trace_events.specs.declared.Preamble.TheVariants as preamble
+use Rattle.trace_events.specs.declared.Unreadable.TheVariants.{Short, Bad}
 use Rattle.trace_events.proofs.More.{Settles}
 use Rattle.trace_events.proofs.Settings.{settings-more, settings_in}
 use Rattle.trace_lines.specs.Line.{bad_line, config_line}
@@ -31,40 +32,40 @@ use Rattle.trace.proofs.Parts.{Ahead, call_in, runs-from, in_parts}
 
 -- ---- the settings
 
-abbrev IsShort : Preamble → Type 0
-IsShort preamble.Short = Unit {0}
-IsShort preamble.Bad = ⊥
-IsShort (preamble.Settings t next) = ⊥
+abbrev IsShort : Reading Preamble → Type 0
+IsShort (Err Short) = Unit {0}
+IsShort (Err Bad) = ⊥
+IsShort (Ok p) = ⊥
 
 -- a hundred bytes hold the settings
-pub settings_there : (a : List ℕ) → 100 ≤ length a → settings_at a ≡ preamble.Short → ⊥
+pub settings_there : (a : List ℕ) → 100 ≤ length a → settings_at a ≡ Err Short → ⊥
 settings_there a h e = let l : length a < 100 = subst (PreambleIn a) e (settings_in a) in omega arith
 
 -- settings that are read, or unreadable, are those of the whole
-settings_same : (a more : List ℕ) (x : Preamble) → (IsShort x → ⊥) → settings_at a ≡ x → settings_at (a ++ more) ≡ x
+settings_same : (a more : List ℕ) (x : Reading Preamble) → (IsShort x → ⊥) → settings_at a ≡ x → settings_at (a ++ more) ≡ x
 settings_same a more x n e = go (settings-more a more)
   where
-    go : Settles preamble.Short (settings_at a) (settings_at (a ++ more)) → settings_at (a ++ more) ≡ x
+    go : Settles (Err Short) (settings_at a) (settings_at (a ++ more)) → settings_at (a ++ more) ≡ x
     go (inl s) = absurd (n (subst IsShort (sym s ∙ e) tt))
     go (inr s) = s ∙ e
 
 -- ---- no events
 
-pub cut_output : (a : List ℕ) → settings_at a ≡ preamble.Short → output a ≡ bad_line 0 0
+pub cut_output : (a : List ℕ) → settings_at a ≡ Err Short → output a ≡ bad_line 0 0
 cut_output a e = rw e
 
 module _ (a more : List ℕ) where
-  pub bad-output : settings_at a ≡ preamble.Bad → output (a ++ more) ≡ bad_line 0 0
-  bad-output e = rw (settings_same a more preamble.Bad (λ x. x) e)
+  pub bad-output : settings_at a ≡ Err Bad → output (a ++ more) ≡ bad_line 0 0
+  bad-output e = rw (settings_same a more (Err Bad) (λ x. x) e)
 
-  module _ (t : Settings) (next : ℕ) (e : settings_at a ≡ preamble.Settings t next) where
+  module _ (t : Settings) (next : ℕ) (e : settings_at a ≡ Ok (record { settings = t; next = next })) where
     -- whatever else is wrong, and whatever comes after: the number of the first wrong setting is printed, and nothing else
     pub wrong-output : (w : Setting) → FirstWrong (holds most t) w → output (a ++ more) ≡ config_line (setting_number w)
-    wrong-output w f = rw (settings_same a more (preamble.Settings t next) (λ x. x) e, wrong-named most t w f)
+    wrong-output w f = rw (settings_same a more (Ok (record { settings = t; next = next })) (λ x. x) e, wrong-named most t w f)
 
-    pub fine-output : (k : Config) → checked_within most t ≡ settings.Fine k
+    pub fine-output : (k : Config) → checked_within most t ≡ Ok k
         → output (a ++ more) ≡ printed (runs allowance (initial k) (a ++ more) next 0 endless) (length (a ++ more))
-    fine-output k f = rw (settings_same a more (preamble.Settings t next) (λ x. x) e, f)
+    fine-output k f = rw (settings_same a more (Ok (record { settings = t; next = next })) (λ x. x) e, f)
 
     settings-inside : next ≤ length a
     settings-inside = (subst (PreambleIn a) e (settings_in a)).1
@@ -82,7 +83,7 @@ whole-runs a ps k next h =
 
 -- Settings that a trace may have, and then events in parts: all that is printed is the lines of the runs and the last line, with its places
 -- counted over the whole input.
-pub output_in_parts : (a : List ℕ) (ps : List Part) (t : Settings) (next : ℕ) (k : Config) → settings_at a ≡ preamble.Settings t next → checked_within most t ≡ settings.Fine k
+pub output_in_parts : (a : List ℕ) (ps : List Part) (t : Settings) (next : ℕ) (k : Config) → settings_at a ≡ Ok (record { settings = t; next = next }) → checked_within most t ≡ Ok k
     → output (a ++ joined ps) ≡ printed (shifted next (feeds allowance (initial k) (drop next a) 0 ps)) (length (a ++ joined ps))
 output_in_parts a ps t next k e f =
     fine-output a (joined ps) t next e k f
@@ -118,7 +119,7 @@ stops_at (suc k) c s at n room = go (call_at s at) refl (call_in s at) (λ d p m
         wrote_at = rw (counted after.applied) (omega (arith, ih (step c x).after next (n + 1) (less room (length line)), a.0))
 
 -- The byte that is printed of an unreadable trace: the length of its settings and of all events before the failing one.
-pub unreadable_output : (s : List ℕ) (t : Settings) (next : ℕ) (k : Config) → settings_at s ≡ preamble.Settings t next → checked_within most t ≡ settings.Fine k
+pub unreadable_output : (s : List ℕ) (t : Settings) (next : ℕ) (k : Config) → settings_at s ≡ Ok (record { settings = t; next = next }) → checked_within most t ≡ Ok k
     → let r = runs allowance (initial k) s next 0 endless in Unreadable r (length s)
     → output s ≡ r.lines ++ bad_line r.applied (next + total (lengths r.applied s next))
 unreadable_output s t next k e f u =

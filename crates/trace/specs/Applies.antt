@@ -1,8 +1,7 @@
 -- What the call of an event promises from a valid state: the rules' step, and what its line shows of lent output.
-use Rattle.std.specs.Prelude.{◌≡◌, Bool, false, cond, List, ℕ, ltb, eqb, length, take}
+use Rattle.std.specs.Prelude.{◌≡◌, Bool, false, cond, List, ℕ, ltb, eqb, length, take, Option}
 use Rattle.rules.specs.Replies.{count_of}
 use Rattle.rules.specs.Step.{Call, step}
-use Rattle.rules.specs.declared.Value.{Value}
 use Rattle.connection.specs.Abstract.{abs_of, Valid}
 use Rattle.connection.specs.Promises as connection
 use Rattle.connection.specs.Promises.{Follows, sent_after}
@@ -18,7 +17,7 @@ abbrev pub slot_of : ℕ → ℕ
 slot_of n = cond (ltb 4294967295 n) 4294967295 n
 
 -- how many bytes read the line of an event shows: those that a read's value counts; no other call reads
-abbrev pub bytes_read : Kind → Value → ℕ
+abbrev pub bytes_read : Kind → Option ℕ → ℕ
 bytes_read (Read slot count) v = count_of v
 bytes_read Tick v = 0
 bytes_read (Frame head body) v = 0

@@ -1,5 +1,5 @@
 -- How a trace starts and ends, and all that is printed for an input. Sentences are document 01's, "replay".
-use Rattle.std.specs.Prelude.{◌≡◌, cond, List, [], ◌++◌, ℕ, ◌+◌, ◌-◌, ◌*◌, ltb, length}
+use Rattle.std.specs.Prelude.{◌≡◌, cond, List, [], ◌++◌, ℕ, ◌+◌, ◌-◌, ◌*◌, ltb, length, Result, Ok, Err, Option, None}
 use Rattle.chunks.specs.Blocks.{BLOCK, blocks_for}
 use Rattle.table.specs.Table.{size}
 use Rattle.rules.specs.Replies.{number}
@@ -9,21 +9,17 @@ use Rattle.rules.specs.declared.Settings.{Settings}
 use Rattle.rules.specs.declared.Config.{Config}
 use Rattle.rules.specs.declared.Most.{Most}
 use Rattle.rules.specs.declared.Reply.TheVariants as reply
-use Rattle.rules.specs.declared.Checked.{Checked}
-use Rattle.rules.specs.declared.Checked.TheVariants as settings
+use Rattle.trace_events.specs.Numbers.{Reading}
 use Rattle.trace_events.specs.Format.{settings_at}
 use Rattle.trace_events.specs.declared.Preamble.{Preamble}
-use Rattle.trace_events.specs.declared.Preamble.TheVariants as preamble
 use Rattle.trace_lines.specs.Line.{end_line, bad_line, config_line}
 use Rattle.trace_lines.specs.Writing.{Writes, last_room}
-use Rattle.trace_lines.specs.declared.Put.{Put}
-use Rattle.trace_lines.specs.declared.Put.TheVariants as put
 use Rattle.trace.specs.Runs.{Traced, endless, runs}
 use Rattle.trace.specs.declared.Stop.{Stop}
 use Rattle.trace.specs.declared.Stop.TheVariants as stop
 use Rattle.trace.specs.declared.ends.Sizes.{Sizes}
 use Rattle.trace.specs.declared.ends.Begun.{Begun}
-use Rattle.trace.specs.declared.ends.Begun.TheVariants as begun
+use Rattle.rules.specs.declared.Setting.{Setting}
 
 -- ---- settings
 
@@ -36,15 +32,14 @@ abbrev pub sizes_of : Config → Sizes
 sizes_of k = record { table = size k.slots; links = blocks_for k.slots k.pool; pool = blocks_for k.slots k.pool * BLOCK }
 
 -- "a breach .. judged once all ten are read"
-abbrev pub judged_as : Checked → Settings → ℕ → Begun
-judged_as (settings.Wrong w) t next = begun.Stop (stop.Wrong w)
-judged_as (settings.Fine k) t next = begun.Fine t (sizes_of k) next
+abbrev pub judged_as : Result Config Setting → Settings → ℕ → Result Begun Stop
+judged_as (Err w) t next = Err (stop.Wrong w)
+judged_as (Ok k) t next = Ok (record { settings = t; sizes = sizes_of k; next = next })
 
 -- settings cut short, and an empty input, are unreadable (reading C6)
-abbrev pub begun_as : Preamble → Begun
-begun_as (preamble.Settings t next) = judged_as (checked_within most t) t next
-begun_as preamble.Short = begun.Stop stop.Bad
-begun_as preamble.Bad = begun.Stop stop.Bad
+abbrev pub begun_as : Reading Preamble → Result Begun Stop
+begun_as (Ok p) = judged_as (checked_within most p.settings) p.settings p.next
+begun_as (Err e) = Err stop.Bad
 
 -- ---- the last line
 
@@ -61,11 +56,11 @@ last_line (stop.Wrong w) left byte applied growth = config_line (setting_number 
 last_line stop.Size left byte applied growth = config_line (number reply.Size)
 
 -- The last line is written where there is room for it. Where the run stopped for room, nothing is, and that is told again.
-abbrev pub Finishes : Stop → ℕ → ℕ → ℕ → ℕ → List ℕ → ℕ → List ℕ → Put → Type 0
+abbrev pub Finishes : Stop → ℕ → ℕ → ℕ → ℕ → List ℕ → ℕ → List ℕ → Option ℕ → Type 0
 Finishes stop.Short left byte applied growth o at o' r = Writes last_room o at (last_line stop.Short left byte applied growth) o' r
 Finishes stop.Bad left byte applied growth o at o' r = Writes last_room o at (last_line stop.Bad left byte applied growth) o' r
 Finishes stop.Spent left byte applied growth o at o' r = Writes last_room o at (last_line stop.Spent left byte applied growth) o' r
-Finishes stop.Full left byte applied growth o at o' r = (r ≡ put.Full) × (o' ≡ o)
+Finishes stop.Full left byte applied growth o at o' r = (r ≡ None) × (o' ≡ o)
 Finishes (stop.Wrong w) left byte applied growth o at o' r = Writes last_room o at (last_line (stop.Wrong w) left byte applied growth) o' r
 Finishes stop.Size left byte applied growth o at o' r = Writes last_room o at (last_line stop.Size left byte applied growth) o' r
 
@@ -80,15 +75,14 @@ abbrev pub printed : Traced → ℕ → List ℕ
 printed r size = r.lines ++ last_line r.why (size - r.at) r.at r.applied r.after.growth
 
 -- M-100: "`config` prints that number"
-abbrev pub output_with : Checked → List ℕ → ℕ → List ℕ
-output_with (settings.Wrong w) s next = config_line (setting_number w)
-output_with (settings.Fine k) s next = printed (runs allowance (initial k) s next 0 endless) (length s)
+abbrev pub output_with : Result Config Setting → List ℕ → ℕ → List ℕ
+output_with (Err w) s next = config_line (setting_number w)
+output_with (Ok k) s next = printed (runs allowance (initial k) s next 0 endless) (length s)
 
 -- an unreadable trace, with no event applied; M-100: "0 for the settings"
-abbrev pub output_of : Preamble → List ℕ → List ℕ
-output_of (preamble.Settings t next) s = output_with (checked_within most t) s next
-output_of preamble.Short s = bad_line 0 0
-output_of preamble.Bad s = bad_line 0 0
+abbrev pub output_of : Reading Preamble → List ℕ → List ℕ
+output_of (Ok p) s = output_with (checked_within most p.settings) s p.next
+output_of (Err e) s = bad_line 0 0
 
 -- what is printed for an input
 abbrev pub output : List ℕ → List ℕ

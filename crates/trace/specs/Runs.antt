@@ -1,8 +1,6 @@
 -- A run over a trace: its lines, the events applied, where it stops and why. Sentences are document 01's, "replay".
-use Rattle.std.specs.Prelude.{◌≡◌, ◌⊎◌, Bool, false, cond, List, [], ◌∷◌, ◌++◌, ℕ, zero, suc, ◌+◌, ◌-◌, ◌<◌, length, drop, ltb}
+use Rattle.std.specs.Prelude.{◌≡◌, ◌⊎◌, Bool, false, cond, List, [], ◌∷◌, ◌++◌, ℕ, zero, suc, ◌+◌, ◌-◌, ◌<◌, length, drop, ltb, Option, Some, None}
 use Rattle.frame.specs.Wire.{wire}
-use Rattle.stream.specs.declared.Sent.{Sent}
-use Rattle.stream.specs.declared.Sent.TheVariants.{Frame, Nothing}
 use Rattle.rules.specs.Lists.{sum}
 use Rattle.rules.specs.Replies.{Outcome}
 use Rattle.rules.specs.State.{Conn}
@@ -12,6 +10,7 @@ use Rattle.trace_lines.specs.Line.{line_of, shown_of}
 use Rattle.trace_lines.specs.Writing.{longest_line}
 use Rattle.trace.specs.declared.Stop.{Stop}
 use Rattle.trace.specs.declared.Stop.TheVariants as stop
+use Rattle.frame.specs.declared.header.Header.{Header}
 
 -- The lines, how many events were applied, the place after the last of them, the state then, and why no more were.
 pub record Traced : Type 0 where
@@ -22,9 +21,9 @@ pub record Traced : Type 0 where
   pub why : Stop
 
 -- "header sent in hex": its twelve bytes, or none
-abbrev pub header_bytes : Sent → List ℕ
-header_bytes (Frame h) = wire h
-header_bytes Nothing = []
+abbrev pub header_bytes : Option Header → List ℕ
+header_bytes (Some h) = wire h
+header_bytes None = []
 
 -- the line of the n-th event
 unfoldable pub event_line : ℕ → Outcome → List ℕ

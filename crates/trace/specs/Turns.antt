@@ -1,31 +1,30 @@
 -- What one event, and a run over the events from a place on, promise.
-use Rattle.std.specs.Prelude.{◌≡◌, Bool, true, false, ◌⊎◌, List, ℕ, suc, ◌+◌, ◌-◌, ◌*◌, ◌≤◌, ◌<◌, min, length, take}
+use Rattle.std.specs.Prelude.{◌≡◌, Bool, true, false, ◌⊎◌, List, ℕ, suc, ◌+◌, ◌-◌, ◌*◌, ◌≤◌, ◌<◌, min, length, take, Result, Ok, Err, Option, Some, None}
 use Rattle.std.proofs.lemmas.List.Edits.{sets}
-use Rattle.stream.specs.declared.Sent.{Sent}
-use Rattle.stream.specs.declared.Sent.TheVariants.{Frame, Nothing}
 use Rattle.rules.specs.State.{Conn}
 use Rattle.connection.specs.Abstract.{abs_of, Valid}
 use Rattle.connection.specs.declared.Connection.{Connection}
 use Rattle.handlers.specs.declared.Answer.{Answer}
 use Rattle.trace_events.specs.Calls.{longest}
 use Rattle.trace_events.specs.declared.Kind.{Kind}
+use Rattle.trace_events.specs.declared.Unreadable.{Unreadable}
+use Rattle.trace_events.specs.declared.Unreadable.TheVariants.{Short, Bad}
 use Rattle.trace_lines.specs.Line.{line_of}
 use Rattle.trace_lines.specs.Writing.{longest_line}
 use Rattle.trace.specs.Applies.{bytes_read}
 use Rattle.trace.specs.Runs.{Traced, only, stopped, wrote, runs, resumed}
 use Rattle.trace.specs.declared.Stop.{Stop}
 use Rattle.trace.specs.declared.Stop.TheVariants as stop
-use Rattle.trace.specs.declared.Turned.{Turned}
-use Rattle.trace.specs.declared.Turned.TheVariants as turned
 use Rattle.trace.specs.declared.Place.{Place}
 use Rattle.trace.specs.declared.Report.{Report}
+use Rattle.frame.specs.declared.header.Header.{Header}
 
 -- ---- one event
 
 -- how many of the twelve lent bytes a header takes
-abbrev pub header_size : Sent → ℕ
-header_size (Frame h) = 12
-header_size Nothing = 0
+abbrev pub header_size : Option Header → ℕ
+header_size (Some h) = 12
+header_size None = 0
 
 -- the line of an answer to an event of this kind, its header and its bytes read off the lent output
 abbrev pub shown_line : ℕ → Kind → Answer → List ℕ → List ℕ → List ℕ
@@ -34,6 +33,11 @@ shown_line n k a sent bytes =
     (record { number = n; reply = a.reply; slot = a.slot; value = a.value; wakes = a.wakes })
     (take (header_size a.sent) sent)
     (take (min (bytes_read k a.value) (length bytes)) bytes)
+
+-- why a run stops where no event is read
+abbrev pub stop_of : Unreadable → Stop
+stop_of Short = stop.Short
+stop_of Bad = stop.Bad
 
 -- what a run that stops so lacks, on every input of `size` bytes and in `room` bytes for lines: fewer bytes are left than the longest event
 -- takes, or less room than the longest line takes; of the other reasons nothing is said
@@ -72,10 +76,10 @@ pub record Goes (c : Connection) (t l p s : List ℕ) (at number : ℕ) (o : Lis
   pub room : end ≤ length o
   pub steps : Valid c t l p → Continues c t l p s at number o put d after end t' l' p' o'
 
-abbrev pub Turns : Connection → List ℕ → List ℕ → List ℕ → List ℕ → List ℕ → Place → Turned → List ℕ → List ℕ → List ℕ → List ℕ → Type 0
-Turns c t l p s o place (turned.Stop why) t' l' p' o' = Halts t l p s place.at o place.put why t' l' p' o'
-Turns c t l p s o place (turned.On d here) t' l' p' o' =
-    (here.applied ≡ place.applied + 1) × Goes c t l p s place.at (place.applied + 1) o place.put d here.at here.put t' l' p' o'
+abbrev pub Turns : Connection → List ℕ → List ℕ → List ℕ → List ℕ → List ℕ → Place → Result (Connection × Place) Stop → List ℕ → List ℕ → List ℕ → List ℕ → Type 0
+Turns c t l p s o place (Err why) t' l' p' o' = Halts t l p s place.at o place.put why t' l' p' o'
+Turns c t l p s o place (Ok on) t' l' p' o' =
+    (on.1.applied ≡ place.applied + 1) × Goes c t l p s place.at (place.applied + 1) o place.put on.0 on.1.at on.1.put t' l' p' o'
 
 -- ---- a run
 

@@ -3,35 +3,26 @@ ghost use Rattle.std.specs.Prelude.{◌≡◌, ◌≤◌, length};
 ghost use Rattle.trace_events.specs.Calls.{Lies};
 ghost use Rattle.trace.specs.Applies.{slot_of, bytes_read, Applies};
 
+use crate::SCRATCH;
 use connection::{Connection, Done};
-use rules::{Slot, Value};
+use frame::header::HEADER_SIZE;
+use rules::Slot;
 use trace_events::{Event, Kind};
-
-const TOP: u64 = u32::MAX as u64;
 
 // The slot of this number, or one that no connection has.
 fn slot_of(n: u64) -> Slot
     ensures { result.0 ≡ slot_of n }
 {
-    if TOP < n {
-        return Slot(u32::MAX);
-    }
-    Slot(n as u32)
+    Slot(u32::try_from(n).unwrap_or(u32::MAX))
 }
 
 // How many bytes read the line of an event of this kind shows.
-pub(crate) fn bytes_read(kind: Kind, value: Value) -> u32
+pub(crate) fn bytes_read(kind: Kind, value: Option<u32>) -> u32
     ensures { result ≡ bytes_read kind value }
 {
     match kind {
-        Kind::Read { slot: _, count: _ } => value.count(),
-        Kind::Tick => 0,
-        Kind::Frame { head: _, body: _ } => 0,
-        Kind::Open => 0,
-        Kind::Write { slot: _, start: _ } => 0,
-        Kind::Close { slot: _ } => 0,
-        Kind::Drop { slot: _ } => 0,
-        Kind::Gone => 0,
+        Kind::Read { .. } => value.unwrap_or(0),
+        _ => 0,
     }
 }
 
@@ -41,19 +32,17 @@ pub(crate) fn apply(
     table: &mut [u64],
     links: &mut [u32],
     pool: &mut [u8],
-    sent: &mut [u8],
-    bytes: &mut [u8],
+    sent: &mut [u8; HEADER_SIZE],
+    bytes: &mut [u8; SCRATCH],
     src: &[u8],
     event: Event,
 ) -> Done
-    requires { Lies event.next event.kind × (event.next ≤ length src.now) × (length bytes.old ≡ 16384) }
+    requires { Lies event.next event.kind × (event.next ≤ length src.now) }
     ensures { Applies c table.old links.old pool.old sent.old src.now event result table.new links.new pool.new sent.new bytes.new }
 {
-    let now = event.now;
-    let next = event.next;
-    let kind = event.kind;
+    let Event { now, next, kind } = event;
     match kind {
-        Kind::Tick => connection_write::tick(c, &table[..], sent, now),
+        Kind::Tick => connection_write::tick(c, table, sent, now),
         Kind::Frame { head, body } => {
             let front = &src[head..body];
             let rest = &src[body..next];
@@ -61,21 +50,15 @@ pub(crate) fn apply(
         }
         Kind::Open => connection_open::open(c, table, links, pool, now),
         Kind::Read { slot, count } => {
-            let handle = slot_of(slot);
             let room = &mut bytes[..count];
-            connection_read::read(c, table, links, &pool[..], sent, handle, room, now)
+            connection_read::read(c, table, links, pool, sent, slot_of(slot), room, now)
         }
         Kind::Write { slot, start } => {
-            let handle = slot_of(slot);
-            connection_write::write(c, table, sent, handle, &src[start..next], now)
+            connection_write::write(c, table, sent, slot_of(slot), &src[start..next], now)
         }
-        Kind::Close { slot } => {
-            let handle = slot_of(slot);
-            connection_write::close(c, table, sent, handle, now)
-        }
+        Kind::Close { slot } => connection_write::close(c, table, sent, slot_of(slot), now),
         Kind::Drop { slot } => {
-            let handle = slot_of(slot);
-            connection_drop::on_drop_stream(c, table, links, sent, handle, now)
+            connection_drop::on_drop_stream(c, table, links, sent, slot_of(slot), now)
         }
         Kind::Gone => connection_write::peer_gone(c, table, now),
     }

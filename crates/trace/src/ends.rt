@@ -5,28 +5,29 @@ ghost use Rattle.trace_events.specs.Format.{settings_at};
 ghost use Rattle.trace.specs.Output.{most, sizes_of, judged_as, begun_as, Finishes};
 
 use crate::Stop;
-use rules::{Checked, Config, Most, Reply, Settings};
-use trace_events::Preamble;
-use trace_lines::Put;
+use rules::{Config, Most, Reply, Settings};
 
 // The cells and bytes that settings ask for.
-#[derive(Clone, Copy)]
+#[derive(Clone, Copy, Debug, PartialEq, Eq)]
 pub struct Sizes {
     pub table: usize,
     pub links: usize,
     pub pool: usize,
 }
 
-// Settings that a trace may have, what they ask for and the place after them; or why no event is reached.
-#[derive(Clone, Copy)]
-pub enum Begun {
-    Fine(Settings, Sizes, usize),
-    Stop(Stop),
+// Settings that a trace may have, what they ask for and the place after them.
+#[derive(Clone, Copy, Debug, PartialEq, Eq)]
+pub struct Begun {
+    pub settings: Settings,
+    pub sizes: Sizes,
+    pub next: usize,
 }
 
-const MOST_SLOTS: u64 = 300;
-
-const MOST_POOL: u64 = 16384;
+// The most that a trace may ask for.
+const MOST: Most = Most {
+    slots: 300,
+    pool: 16384,
+};
 
 fn sizes_of(config: Config) -> Sizes
     ensures { result ≡ sizes_of config }
@@ -39,33 +40,24 @@ fn sizes_of(config: Config) -> Sizes
 }
 
 // Judges settings, once all ten are read.
-fn judge(settings: Settings, next: usize) -> Begun
+fn judge(settings: Settings, next: usize) -> Result<Begun, Stop>
     ensures { result ≡ judged_as (checked_within most settings) settings next }
 {
-    let most = Most {
-        slots: MOST_SLOTS,
-        pool: MOST_POOL,
-    };
-    let checked = settings.check_within(most);
-    match checked {
-        Checked::Wrong(setting) => Begun::Stop(Stop::Wrong(setting)),
-        Checked::Fine(config) => {
-            let sizes = sizes_of(config);
-            Begun::Fine(settings, sizes, next)
-        }
-    }
+    let config = settings.check_within(MOST)?;
+    Ok(Begun {
+        settings,
+        sizes: sizes_of(config),
+        next,
+    })
 }
 
-// How a trace begins, of which a hundred bytes are here or all of it: settings that it ends within are unreadable.
-pub fn begin(src: &[u8]) -> Begun
+// How a trace begins, of which a hundred bytes are here or all of it, or why no event is reached: settings that it ends within are
+// unreadable.
+pub fn begin(src: &[u8]) -> Result<Begun, Stop>
     ensures { result ≡ begun_as (settings_at src.now) }
 {
-    let read = trace_events::read_settings(src);
-    match read {
-        Preamble::Settings(settings, next) => judge(settings, next),
-        Preamble::Short => Begun::Stop(Stop::Bad),
-        Preamble::Bad => Begun::Stop(Stop::Bad),
-    }
+    let preamble = trace_events::read_settings(src).map_err(|_| Stop::Bad)?;
+    judge(preamble.settings, preamble.next)
 }
 
 // Writes the last line of a trace whose run stopped so, at this byte of the input, `left` bytes of it being left. A run that stopped for
@@ -78,23 +70,15 @@ pub fn finish(
     byte: u64,
     applied: u64,
     growth: u64,
-) -> Put
+) -> Option<usize>
     ensures { Finishes stop left byte applied growth out.old put out.new result }
 {
     match stop {
-        Stop::Short => {
-            if 0 < left {
-                return trace_lines::bad_line(out, put, applied, byte);
-            }
-            trace_lines::end_line(out, put, applied, growth)
-        }
+        Stop::Short if 0 < left => trace_lines::bad_line(out, put, applied, byte),
         Stop::Bad => trace_lines::bad_line(out, put, applied, byte),
-        Stop::Spent => trace_lines::end_line(out, put, applied, growth),
-        Stop::Full => Put::Full,
-        Stop::Wrong(setting) => trace_lines::config_line(out, put, setting.number()),
-        Stop::Size => {
-            let reply = Reply::Size;
-            trace_lines::config_line(out, put, reply.number())
-        }
+        Stop::Short | Stop::Spent => trace_lines::end_line(out, put, applied, growth),
+        Stop::Full => None,
+        Stop::Wrong(setting) => trace_lines::config_line(out, put, setting.into()),
+        Stop::Size => trace_lines::config_line(out, put, Reply::Size.into()),
     }
 }

@@ -7,20 +7,20 @@ mod ends;
 ghost use Rattle.std.specs.Prelude.{◌≡◌, true, ◌+◌, ◌-◌, ◌≤◌, ◌<◌, length};
 ghost use Rattle.trace_lines.specs.Writing.{Stores, longest_line};
 ghost use Rattle.trace.specs.Applies.{sized};
-ghost use Rattle.trace.specs.Turns.{header_size, shown_line, Turns, stopped_at, Runs, Untouched};
+ghost use Rattle.trace.specs.declared.Stop.TheVariants.{Wrong};
+ghost use Rattle.trace.specs.Turns.{header_size, shown_line, stop_of, Turns, stopped_at, Runs, Untouched};
 
 use connection::Connection;
 pub use ends::{Begun, Sizes, begin, finish};
-use frame::header::HEADER_SIZE;
+use frame::header::{HEADER_SIZE, Header};
 use handlers::Answer;
 use rules::Setting;
-use stream::Sent;
-use trace_events::{Kind, Parsed};
-use trace_lines::{LONGEST_LINE, Put, Shown};
+use trace_events::{Kind, Unreadable};
+use trace_lines::{LONGEST_LINE, Shown};
 
 // Why a trace stopped: the input ends before or within an event; the next event is unreadable; the allowance is used up; there
 // is less room than the longest line takes; a setting is wrong; or something lent is of the wrong size, and nothing was applied.
-#[derive(Clone, Copy)]
+#[derive(Clone, Copy, Debug, PartialEq, Eq)]
 pub enum Stop {
     Short,
     Bad,
@@ -30,8 +30,27 @@ pub enum Stop {
     Size,
 }
 
+impl From<Unreadable> for Stop {
+    ghost from_gives = { λ e result. result ≡ stop_of e };
+
+    fn from(e: Unreadable) -> Stop {
+        match e {
+            Unreadable::Short => Stop::Short,
+            Unreadable::Bad => Stop::Bad,
+        }
+    }
+}
+
+impl From<Setting> for Stop {
+    ghost from_gives = { λ setting stop. stop ≡ Wrong setting };
+
+    fn from(setting: Setting) -> Stop {
+        Stop::Wrong(setting)
+    }
+}
+
 // Where a run stands: the place in the input, the events applied so far, and the place in the room for lines.
-#[derive(Clone, Copy)]
+#[derive(Clone, Copy, Debug, PartialEq, Eq)]
 pub struct Place {
     pub at: usize,
     pub applied: u64,
@@ -39,18 +58,11 @@ pub struct Place {
 }
 
 // The connection after a run, where the run stands, and why it stopped there.
-#[derive(Clone, Copy)]
+#[derive(Clone, Copy, Debug, PartialEq, Eq)]
 pub struct Report {
     pub connection: Connection,
     pub place: Place,
     pub stop: Stop,
-}
-
-// The connection after an event, and where the run stands then; or why the event was not applied.
-#[derive(Clone, Copy)]
-enum Turned {
-    On(Connection, Place),
-    Stop(Stop),
 }
 
 // The most bytes that an event reads.
@@ -60,93 +72,82 @@ pub const SCRATCH: usize = 16384;
 fn sized(c: Connection, table: usize, links: usize, pool: usize, sent: usize, bytes: usize) -> bool
     ensures { result ≡ sized c table links pool sent bytes }
 {
-    if connection::sized(c, table, links, pool, sent) {
-        return bytes == SCRATCH;
-    }
-    false
+    connection::sized(c, table, links, pool, sent) && bytes == SCRATCH
 }
 
 // How many of the twelve lent bytes an answer gives.
-fn header_size(sent: Sent) -> usize
+fn header_size(sent: Option<Header>) -> usize
     ensures value { result ≡ header_size sent }
     ensures upper_bound { result ≤ 12 }
 {
-    match sent {
-        Sent::Frame(_) => HEADER_SIZE,
-        Sent::Nothing => 0,
-    }
+    if sent.is_some() { HEADER_SIZE } else { 0 }
 }
 
 // Writes the line of an event of this kind where there is room for the longest one, and returns the place after it.
 fn show(
     kind: Kind,
     answer: Answer,
-    sent: &[u8],
-    bytes: &[u8],
+    sent: &[u8; HEADER_SIZE],
+    bytes: &[u8; SCRATCH],
     number: u64,
     out: &mut [u8],
     put: usize,
 ) -> usize
-    requires { (length sent.now ≡ 12) × (length bytes.now ≡ 16384) × (put + longest_line ≤ length out.old) }
+    requires { put + longest_line ≤ length out.old }
     ensures stores { Stores out.old put (shown_line number kind answer sent.now bytes.now) out.new result }
     ensures upper_bound { result ≤ length out.old }
 {
-    let given = answer.sent;
-    let header = header_size(given);
-    let value = answer.value;
-    let count = apply::bytes_read(kind, value);
-    let read = chunks::least(count as usize, bytes.len());
-    let reply = answer.reply;
-    let slot = answer.slot;
-    let wakes = answer.wakes;
+    let header = header_size(answer.sent);
+    let count = apply::bytes_read(kind, answer.value);
+    let read = (count as usize).min(bytes.len());
     let shown = Shown {
         number,
-        reply,
-        slot,
-        value,
-        wakes,
+        reply: answer.reply,
+        slot: answer.slot,
+        value: answer.value,
+        wakes: answer.wakes,
     };
-    let written = trace_lines::line(out, put, shown, &sent[..header], &bytes[..read]);
-    match written {
-        Put::At(end) => end,
-        Put::Full => put,
-    }
+    trace_lines::line(out, put, shown, &sent[..header], &bytes[..read]).unwrap_or(put)
 }
 
-// Applies the event at a place and writes its line.
+// Applies the event at a place and writes its line: the connection after it, and where the run stands then; or why the event was
+// not applied.
 fn turn(
     c: Connection,
     table: &mut [u64],
     links: &mut [u32],
     pool: &mut [u8],
-    sent: &mut [u8],
-    bytes: &mut [u8],
+    sent: &mut [u8; HEADER_SIZE],
+    bytes: &mut [u8; SCRATCH],
     src: &[u8],
     out: &mut [u8],
     place: Place,
-) -> Turned
-    requires { (length sent.old ≡ 12) × (length bytes.old ≡ 16384) × (place.applied < 18446744073709551615) }
+) -> Result<(Connection, Place), Stop>
+    requires { place.applied < 18446744073709551615 }
     ensures { Turns c table.old links.old pool.old src.now out.old place result table.new links.new pool.new out.new }
 {
-    let found = trace_events::read_event(src, place.at);
-    match found {
-        Parsed::Short => Turned::Stop(Stop::Short),
-        Parsed::Bad => Turned::Stop(Stop::Bad),
-        Parsed::Event(event) => {
-            let left = trace_lines::room_left(out.len(), place.put);
-            if left < LONGEST_LINE {
-                return Turned::Stop(Stop::Full);
-            }
-            let done = apply::apply(c, table, links, pool, sent, bytes, src, event);
-            let at = event.next;
-            let applied = place.applied + 1;
-            let answer = done.answer;
-            let kind = event.kind;
-            let put = show(kind, answer, &sent[..], &bytes[..], applied, out, place.put);
-            let connection = done.connection;
-            Turned::On(connection, Place { at, applied, put })
-        }
+    let event = trace_events::read_event(src, place.at)?;
+    let left = trace_lines::room_left(out.len(), place.put);
+    if left < LONGEST_LINE {
+        return Err(Stop::Full);
     }
+    let done = apply::apply(c, table, links, pool, sent, bytes, src, event);
+    let applied = place.applied + 1;
+    let put = show(
+        event.kind,
+        done.answer,
+        sent,
+        bytes,
+        applied,
+        out,
+        place.put,
+    );
+    let after = Place {
+        at: event.next,
+        applied,
+        put,
+    };
+    Ok((done.connection, after))
 }
 
 // What a run that stops here returns.
@@ -166,14 +167,13 @@ fn go(
     table: &mut [u64],
     links: &mut [u32],
     pool: &mut [u8],
-    sent: &mut [u8],
-    bytes: &mut [u8],
+    sent: &mut [u8; HEADER_SIZE],
+    bytes: &mut [u8; SCRATCH],
     src: &[u8],
     out: &mut [u8],
     place: Place,
     allowance: u64,
 ) -> Report
-    requires { (length sent.old ≡ 12) × (length bytes.old ≡ 16384) }
     ensures { Runs true c table.old links.old pool.old src.now out.old place allowance result table.new links.new pool.new out.new }
 {
     let mut connection = c;
@@ -181,8 +181,8 @@ fn go(
     while here.applied < allowance {
         let turned = turn(connection, table, links, pool, sent, bytes, src, out, here);
         match turned {
-            Turned::Stop(stop) => return stopped(connection, here, stop),
-            Turned::On(after, next) => {
+            Err(stop) => return stopped(connection, here, stop),
+            Ok((after, next)) => {
                 connection = after;
                 here = next;
             }
@@ -219,6 +219,10 @@ pub fn run(
     if !right {
         return stopped(c, place, Stop::Size);
     }
+    let (Some(sent), Some(bytes)) = (sent.as_mut_array(), bytes.as_mut_array()) else {
+        // Both have their size.
+        unreachable!();
+    };
     go(
         c, table, links, pool, sent, bytes, src, out, place, allowance,
     )

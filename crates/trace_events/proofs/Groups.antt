@@ -1,15 +1,95 @@
 -- A number's groups one by one, and what keeps the sum of the first nine below 2^63. Assumes nothing.
-use mathlib.Core.Path.{◌≡◌, refl, sym, ap, ◌∙◌}
-use mathlib.Core.Bool.{Bool, true, false}
-use mathlib.Core.List.{List}
-use Prim.Native.Nat.{ℕ, zero, suc, ◌+◌, ◌-◌, ◌*◌, ◌%◌, ◌^◌, ◌≤◌, ◌<◌}
-use native.Mathlib.Nat.{pow-succ', mul_assoc, mul-le-mul_left, mul-le-mul_right, one-le-pow, mul-one, zero-lt-suc}
-use native.Mathlib.Omega.{arith}
-use lib.ListN.{length, get_or}
-use lib.Dec.{ltb}
-use borrow.Author.Tests.{lt-ltb, le-ltb, ltb-true, ltb-false}
+use native.Mathlib.Nat.{pow-le-pow_right, pow-succ', one-le-pow}
+use Rattle.std.proofs.Common.{Ok, Err, ◌≡◌, refl, sym, ap, ◌∙◌, Bool, true, false, ◌⊎◌, inl, inr, List, ℕ, zero, suc, ◌+◌, ◌-◌, ◌*◌, ◌%◌, ◌^◌, ◌≤◌, ◌<◌, add_assoc, mul_assoc, mul-one, mul-le-mul_left, mul-le-mul_right, zero-lt-suc, arith, length, get_or, ltb, lt-ltb, le-ltb, ltb-true, ltb-false}
+use Rattle.std.specs.List.{slice_range}
+use Rattle.std.proofs.lemmas.List.{take_rest, get_or-drop}
 use Rattle.trace_events.specs.Numbers.{groups}
-use Rattle.trace_events.specs.declared.Number.TheVariants.{Value, Short, Bad}
+use Rattle.trace_events.specs.declared.Unreadable.TheVariants.{Short, Bad}
+
+-- the byte of the tenth group is 0 or 1
+abbrev pub LastFits : ℕ → ℕ → Type 0
+LastFits k b = ((k ≡ 9) × (b ≤ 1)) ⊎ (¬ (k ≡ 9))
+
+-- the byte at a place
+abbrev pub ByteAt : List ℕ → ℕ → ℕ → Type 0
+ByteAt s p b = (p < length s) × (get_or s p 0 ≡ b)
+
+-- a byte of the input from a place on
+pub group_is : (s g : List ℕ) (at k b : ℕ) → g ≡ slice_range s at (length s) → length g + at ≡ length s → k < length g → b ≡ get_or g k 0 → ByteAt s (at + k) b
+group_is s g at k b e l h i = (omega arith, sym (get_or-drop at s k 0) ∙ ap (λ (x : List ℕ). get_or x k 0) (sym (e ∙ take_rest s at)) ∙ sym i)
+
+module _ (k w v : ℕ) (within : k < 10) (weighs : w ≡ 128 ^ k) (below : v < w) where
+  -- the weight of a group that is not the tenth
+  weight_small : k < 9 → w * 128 ≤ 9223372036854775808
+  weight_small h =
+      let p : 128 ^ k ≤ 128 ^ 8 = pow-le-pow_right (zero-lt-suc 127) {j = 8} (omega arith) in
+      omega arith
+
+  weight_last : k ≡ 9 → w ≡ 9223372036854775808
+  weight_last h = weighs ∙ ap (λ (x : ℕ). 128 ^ x) h
+
+  -- a group added to a sum below its weight stays below the next weight
+  pub stays_below : (b : ℕ) → v + b % 128 * w < w * 128
+  stays_below b =
+      let m : b % 128 * w ≤ 127 * w = mul-le-mul_right w (omega arith) in
+      omega arith
+
+  pub sum_fits : (b : ℕ) → LastFits k b → v + b % 128 * w < 2 ^ 64
+  sum_fits b (inl h) =
+      let z : w ≡ 9223372036854775808 = weight_last h.0 in
+      let m : b % 128 * w ≤ 1 * w = mul-le-mul_right w (omega arith) in
+      omega arith
+  sum_fits b (inr h) = omega (arith, weight_small (omega arith), stays_below b)
+
+  pub weight_fits : (b : ℕ) → LastFits k b → 128 ≤ b → w * 128 < 2 ^ 64
+  weight_fits b (inl h) l = absurd (omega arith)
+  weight_fits b (inr h) l = omega (arith, weight_small (omega arith))
+
+module _ (s : List ℕ) (at k w v : ℕ) (within : k < 10) (weighs : w ≡ 128 ^ k) (below : v < w) where
+  one_of : groups (10 - k) s (at + k) w v ≡ groups (suc (9 - k)) s (at + k) w v
+  one_of = let e : 10 - k ≡ suc (9 - k) = omega arith in rw e
+
+  pub cut : length s ≤ at + k → groups (10 - k) s (at + k) w v ≡ Err Short
+  unfolding groups
+  cut h = rw (one_of, le-ltb _ _ h)
+
+  module _ (b : ℕ) (here : ByteAt s (at + k) b) where
+    pub ends : LastFits k b → b < 128 → groups (10 - k) s (at + k) w v ≡ Ok (record { value = v + b % 128 * w; next = at + k + 1 })
+    unfolding groups
+    ends f l = rw (one_of, here.1, lt-ltb _ _ here.0, lt-ltb _ _ (sum_fits k w v within weighs below b f), lt-ltb _ _ l)
+
+    more : v + b % 128 * w < 2 ^ 64 → 128 ≤ b → groups (10 - k) s (at + k) w v ≡ groups (9 - k) s (at + (k + 1)) (w * 128) (v + b % 128 * w)
+    unfolding groups
+    more f l = rw (one_of, here.1, lt-ltb _ _ here.0, lt-ltb _ _ f, le-ltb _ _ l, ← add_assoc at k 1)
+
+    pub continues : LastFits k b → 128 ≤ b → groups (10 - (k + 1)) s (at + (k + 1)) (w * 128) (v + b % 128 * w) ≡ groups (10 - k) s (at + k) w v
+    continues f l =
+        let e : 10 - (k + 1) ≡ 9 - k = omega arith in
+        rw e (sym (more (sum_fits k w v within weighs below b f) l))
+
+    past : 2 ^ 64 ≤ v + b % 128 * w → groups (10 - k) s (at + k) w v ≡ Err Bad
+    unfolding groups
+    past f = rw (one_of, here.1, lt-ltb _ _ here.0, le-ltb _ _ f)
+
+    -- the tenth group is neither 0 nor 1
+    pub too_large : k ≡ 9 → 1 < b → groups (10 - k) s (at + k) w v ≡ Err Bad
+    unfolding groups
+    too_large h l = go (ltb (b % 128) 2) refl
+      where
+        go : (t : Bool) → ltb (b % 128) 2 ≡ t → groups (10 - k) s (at + k) w v ≡ Err Bad
+        go true q =
+            let m : b % 128 < 2 = ltb-true _ _ q in
+            let z : w ≡ 9223372036854775808 = weight_last k w v within weighs below h in
+            let f : b % 128 * w ≤ 1 * w = mul-le-mul_right w (omega arith) in
+            let e : 9 - k ≡ 0 = omega arith in
+            more (omega arith) (omega arith) ∙ rw e refl
+        go false q =
+            let m : 2 ≤ b % 128 = ltb-false _ _ q in
+            let z : w ≡ 9223372036854775808 = weight_last k w v within weighs below h in
+            let f : 2 * w ≤ b % 128 * w = mul-le-mul_right w m in
+            past (omega arith)
+
+-- ---- the same for any number of groups left, at any place and weight
 
 -- what the groups that are left are worth together with those passed: nine groups hold 63 bits
 abbrev pub Weighs : ℕ → ℕ → Type 0
@@ -45,50 +125,31 @@ group_fits w sum g h l =
     omega arith
 
 module _ (s : List ℕ) (p w v : ℕ) where
-  pub cut : (k : ℕ) → length s ≤ p → groups (suc k) s p w v ≡ Short
-  unfolding groups
-  cut k h = rw (le-ltb _ _ h)
-
-  pub ends : (k b : ℕ) → p < length s → b ≡ get_or s p 0 → v + b % 128 * w < 2 ^ 64 → b < 128 → groups (suc k) s p w v ≡ Value (v + b % 128 * w) (p + 1)
-  unfolding groups
-  ends k b h e f g = rw (← e, lt-ltb _ _ h, lt-ltb _ _ f, lt-ltb _ _ g)
-
   pub goes_on : (k b : ℕ) → p < length s → b ≡ get_or s p 0 → v + b % 128 * w < 2 ^ 64 → 128 ≤ b → groups (suc k) s p w v ≡ groups k s (p + 1) (w * 128) (v + b % 128 * w)
   unfolding groups
   goes_on k b h e f g = rw (← e, lt-ltb _ _ h, lt-ltb _ _ f, le-ltb _ _ g)
-
-  pub past : (k b : ℕ) → p < length s → b ≡ get_or s p 0 → 2 ^ 64 ≤ v + b % 128 * w → groups (suc k) s p w v ≡ Bad
-  unfolding groups
-  past k b h e f = rw (← e, lt-ltb _ _ h, le-ltb _ _ f)
-
-  pub goes-next : (left b : ℕ) → 0 < left → p < length s → b ≡ get_or s p 0 → v + b % 128 * w < 2 ^ 64 → 128 ≤ b → groups (suc left) s p w v ≡ groups (suc (left - 1)) s (p + 1) (w * 128) (v + b % 128 * w)
-  goes-next zero b z h e f g = absurd (omega arith)
-  goes-next (suc n) b z h e f g =
-      let m : suc n - 1 ≡ n = omega arith in
-      rw m (goes_on (suc n) b h e f g)
-
--- the tenth group: 0 or 1, and no group after it
-pub tenth : (s : List ℕ) (p v b : ℕ) → p < length s → b ≡ get_or s p 0 → v < 9223372036854775808 → b ≤ 1 → groups 1 s p 9223372036854775808 v ≡ Value (v + b * 9223372036854775808) (p + 1)
-tenth s p v b h e l g =
-    let m : b % 128 ≡ b = omega arith in
-    ends s p 9223372036854775808 v 0 b h e (omega arith) (omega arith) ∙ ap (λ (x : ℕ). Value (v + x * 9223372036854775808) (p + 1)) m
 
 pub at_tenth : (s : List ℕ) (p w v left : ℕ) → left ≤ 0 → Weighs w left → groups (suc left) s p w v ≡ groups 1 s p 9223372036854775808 v
 at_tenth s p w v left h e =
     let z : left ≡ 0 = omega arith in
     ap (λ (k : ℕ). groups (suc k) s p w v) z ∙ ap (λ (x : ℕ). groups 1 s p x v) (last_weight w left h e)
 
-no_eleventh : (s : List ℕ) (p w v : ℕ) → groups 0 s p w v ≡ Bad
+no_eleventh : (s : List ℕ) (p w v : ℕ) → groups 0 s p w v ≡ Err Bad
 unfolding groups
 no_eleventh s p w v = refl
 
-pub tenth_bad : (s : List ℕ) (p v b : ℕ) → p < length s → b ≡ get_or s p 0 → v < 9223372036854775808 → 1 < b → groups 1 s p 9223372036854775808 v ≡ Bad
+too_much : (s : List ℕ) (p w v b : ℕ) → p < length s → b ≡ get_or s p 0 → 2 ^ 64 ≤ v + b % 128 * w → groups 1 s p w v ≡ Err Bad
+unfolding groups
+too_much s p w v b h e f = rw (← e, lt-ltb _ _ h, le-ltb _ _ f)
+
+-- the tenth group is 0 or 1, and no group follows it
+pub tenth_bad : (s : List ℕ) (p v b : ℕ) → p < length s → b ≡ get_or s p 0 → v < 9223372036854775808 → 1 < b → groups 1 s p 9223372036854775808 v ≡ Err Bad
 tenth_bad s p v b h e l g = go (ltb (b % 128) 2) refl
   where
-    go : (t : Bool) → ltb (b % 128) 2 ≡ t → groups 1 s p 9223372036854775808 v ≡ Bad
+    go : (t : Bool) → ltb (b % 128) 2 ≡ t → groups 1 s p 9223372036854775808 v ≡ Err Bad
     go true q =
         let m : b % 128 < 2 = ltb-true _ _ q in
         goes_on s p 9223372036854775808 v 0 b h e (omega arith) (omega arith) ∙ no_eleventh s (p + 1) _ _
     go false q =
         let m : 2 ≤ b % 128 = ltb-false _ _ q in
-        past s p 9223372036854775808 v 0 b h e (omega arith)
+        too_much s p 9223372036854775808 v b h e (omega arith)

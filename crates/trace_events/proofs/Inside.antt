@@ -1,33 +1,53 @@
 -- Where numbers and events lie: an event takes a byte or more and at most 16,424, all of them there. So a caller that holds
 -- as many bytes is never told Short. Assumes nothing.
-use mathlib.Core.Path.{◌≡◌, refl}
-use mathlib.Core.Bool.{Bool, true, false, cond}
-use mathlib.Core.List.{List}
-use Prim.Native.Nat.{ℕ, zero, suc, ◌+◌, ◌*◌, ◌%◌, ◌^◌, ◌≤◌, ◌<◌}
-use native.Mathlib.Omega.{arith}
-use lib.ListN.{length, get_or}
-use lib.Dec.{eqb, ltb, leb}
-use borrow.Author.Tests.{ltb-true, ltb-false, leb-true, leb-false}
-use Rattle.rules.proofs.Lists.{either}
-use Rattle.trace_events.specs.Numbers.{groups, number_at}
-use Rattle.trace_events.specs.Format.{after, whole, bounded, length_at, event_of, frame_at, bytes_at, count_at, slot_at, rest_at, time_at, event_at}
-use Rattle.trace_events.specs.Calls.{longest, Spans, Within}
+use Rattle.std.proofs.Common.{Ok, Err, ◌≡◌, refl, Bool, true, false, cond, List, ℕ, zero, suc, ◌+◌, ◌*◌, ◌%◌, ◌^◌, ◌≤◌, ◌<◌, arith, length, get_or, eqb, ltb, leb, ltb-true, ltb-false, leb-true, leb-false}
+use Rattle.trace_events.specs.Numbers.{Reading, ◌>>=◌, groups, number_at}
+use Rattle.trace_events.specs.Format.{whole, bounded, length_at, frame_at, count_at, read_at, write_at, close_at, drop_at, code_of, rest_at, event_at}
+use Rattle.trace_events.specs.Calls.{longest, ReadIn, Spans, Lies, Within}
 use Rattle.trace_events.specs.declared.Number.{Number}
-use Rattle.trace_events.specs.declared.Number.TheVariants as number
-use Rattle.trace_events.specs.declared.Kind.TheVariants as kinds
-use Rattle.trace_events.specs.declared.Parsed.{Parsed}
-use Rattle.trace_events.specs.declared.Parsed.TheVariants as parsed
+use Rattle.trace_events.specs.declared.Kind.{Kind}
+use Rattle.trace_events.specs.declared.Event.{Event}
+use Rattle.trace_events.specs.declared.Code.{Code}
+use Rattle.trace_events.specs.declared.Code.TheVariants as codes
+use Rattle.trace_events.specs.declared.Unreadable.TheVariants.{Short, Bad}
 
--- a number of at most k groups, read at `at`
-abbrev pub NumberIn : List ℕ → ℕ → ℕ → Number → Type 0
-NumberIn s at k (number.Value v p) = (at < p) × (p ≤ length s) × (p ≤ at + k)
-NumberIn s at k number.Short = length s < at + k
-NumberIn s at k number.Bad = Unit
+module _ {A : Type 0} (s : List ℕ) (top : ℕ) (P : A → Type 0) where
+  choice-in : (t : Bool) (a b : Reading A) → ReadIn s top P a → ReadIn s top P b → ReadIn s top P (cond t a b)
+  choice-in true a b x y = x
+  choice-in false a b x y = y
 
-widen : (s : List ℕ) (at k : ℕ) (n : Number) → NumberIn s (at + 1) k n → NumberIn s at (suc k) n
-widen s at k (number.Value v p) h = omega arith
-widen s at k number.Short h = omega arith
-widen s at k number.Bad h = tt
+  whole_in : (end : ℕ) (r : Reading A) → end ≤ top → (end ≤ length s → ReadIn s top P r) → ReadIn s top P (whole s end r)
+  whole_in end r l g = go (leb end (length s)) refl
+    where
+      go : (t : Bool) → leb end (length s) ≡ t → ReadIn s top P (cond t r (Err Short))
+      go true q = g (leb-true _ _ q)
+      go false q = let h : length s < end = leb-false _ _ q in omega arith
+
+  bounded-in : (n : ℕ) (r : Reading A) → (n ≤ 16384 → ReadIn s top P r) → ReadIn s top P (bounded n r)
+  bounded-in n r g = go (ltb 16384 n) refl
+    where
+      go : (t : Bool) → ltb 16384 n ≡ t → ReadIn s top P (cond t (Err Bad) r)
+      go true q = tt
+      go false q = g (ltb-false _ _ q)
+
+  -- what is read to a lower place, and is as more says
+  weaker_in : (low : ℕ) (Q : A → Type 0) (r : Reading A) → low ≤ top → ((x : A) → Q x → P x) → ReadIn s low Q r → ReadIn s top P r
+  weaker_in low Q (Ok x) l f h = f x h
+  weaker_in low Q (Err Short) l f h = omega arith
+  weaker_in low Q (Err Bad) l f h = tt
+
+pub then_in : {A B : Type 0} (s : List ℕ) (top : ℕ) (P : A → Type 0) (Q : B → Type 0) (r : Reading A) (f : A → Reading B)
+    → ReadIn s top P r → ((x : A) → P x → ReadIn s top Q (f x)) → ReadIn s top Q (r >>= f)
+then_in s top P Q (Ok x) f h g = g x h
+then_in s top P Q (Err Short) f h g = h
+then_in s top P Q (Err Bad) f h g = tt
+
+-- the place after a number of at most k groups, read at `at`
+abbrev pub NextIn : List ℕ → ℕ → ℕ → Number → Type 0
+NextIn s at k n = Spans s at (at + k) n.next
+
+abbrev pub NumberIn : List ℕ → ℕ → ℕ → Reading Number → Type 0
+NumberIn s at k = ReadIn s (at + k) (NextIn s at k)
 
 pub groups_in : (k : ℕ) (s : List ℕ) (at w v : ℕ) → NumberIn s at k (groups k s at w v)
 unfolding groups
@@ -38,8 +58,8 @@ groups_in (suc k) s at w v = go (ltb at (length s)) refl (groups_in k s (at + 1)
     go true q ih =
         let h : at < length s = ltb-true _ _ q in
         rw q
-        (either (NumberIn s at (suc k)) (ltb (v + get_or s at 0 % 128 * w) (2 ^ 64))
-        (either (NumberIn s at (suc k)) (ltb (get_or s at 0) 128) (omega arith, omega arith, omega arith) (widen s at k (groups k s (at + 1) (w * 128) (v + get_or s at 0 % 128 * w)) ih))
+        (choice-in s (at + suc k) (NextIn s at (suc k)) (ltb (v + get_or s at 0 % 128 * w) (2 ^ 64)) _ _
+        (choice-in s (at + suc k) (NextIn s at (suc k)) (ltb (get_or s at 0) 128) _ _ (omega arith, omega arith, omega arith) (weaker_in s (at + suc k) (NextIn s at (suc k)) (at + 1 + k) (NextIn s (at + 1) k) _ (omega arith) (λ n i. (omega arith, i.1, omega arith)) ih))
         tt)
     go false q ih = let h : length s ≤ at = ltb-false _ _ q in rw q (omega arith)
 
@@ -47,80 +67,89 @@ pub number_in : (s : List ℕ) (at : ℕ) → NumberIn s at 10 (number_at s at)
 unfolding number_at
 number_in s at = groups_in 10 s at 1 0
 
+-- what follows a number lies where it does if every number is there
+pub number-then : {B : Type 0} (s : List ℕ) (top : ℕ) (Q : B → Type 0) (q : ℕ) (f : Number → Reading B) → q + 10 ≤ top
+    → ((n : Number) → NextIn s q 10 n → ReadIn s top Q (f n)) → ReadIn s top Q (number_at s q >>= f)
+number-then s top Q q f t g =
+    then_in s top (NextIn s q 10) Q (number_at s q) f (weaker_in s top (NextIn s q 10) (q + 10) (NextIn s q 10) (number_at s q) t (λ n h. h) (number_in s q)) g
+
 module _ (s : List ℕ) (low top : ℕ) where
-  after-in : (q : ℕ) (f : ℕ → ℕ → Parsed) → low ≤ q → q + 10 ≤ top
-      → ((v p : ℕ) → q < p → p ≤ length s → p ≤ q + 10 → Within s low top (f v p)) → Within s low top (after (number_at s q) f)
-  after-in q f l t g = go (number_at s q) (number_in s q)
-    where
-      go : (n : Number) → NumberIn s q 10 n → Within s low top (after n f)
-      go (number.Value v p) h = g v p h.0 h.1 h.2
-      go number.Short h = omega arith
-      go number.Bad h = tt
+  -- what an event asks for lies before its end
+  abbrev RestIn : Kind × ℕ → Type 0
+  RestIn r = Spans s low top r.1 × Lies r.1 r.0
 
-  whole_in : (end : ℕ) (e : Parsed) → end ≤ top → (end ≤ length s → Within s low top e) → Within s low top (whole s end e)
-  whole_in end e l g = go (leb end (length s)) refl
-    where
-      go : (t : Bool) → leb end (length s) ≡ t → Within s low top (cond t e parsed.Short)
-      go true q = g (leb-true _ _ q)
-      go false q = let h : length s < end = leb-false _ _ q in omega arith
-
-  bounded-in : (n : ℕ) (e : Parsed) → (n ≤ 16384 → Within s low top e) → Within s low top (bounded n e)
-  bounded-in n e g = go (ltb 16384 n) refl
-    where
-      go : (t : Bool) → ltb 16384 n ≡ t → Within s low top (cond t parsed.Bad e)
-      go true q = tt
-      go false q = g (ltb-false _ _ q)
-
-  choice-in : (t : Bool) (a b : Parsed) → Within s low top a → Within s low top b → Within s low top (cond t a b)
-  choice-in true a b x y = x
-  choice-in false a b x y = y
-
-  module _ (time p : ℕ) (l : low < p) (f : p ≤ length s) (t : p + 16404 ≤ top) where
-    frame-in : Within s low top (frame_at s time p)
+  module _ (p : ℕ) (l : low < p) (f : p ≤ length s) (t : p + 16404 ≤ top) where
+    frame-in : ReadIn s top RestIn (frame_at s p)
     unfolding frame_at
     frame-in =
-        whole_in (p + 12) _ (omega arith)
-        (λ h. choice-in (eqb (get_or s (p + 1) 0) 0) _ _
-        (bounded-in (length_at s p) _ (λ g. whole_in (p + 12 + length_at s p) _ (omega arith) (λ i. ((omega arith, omega arith, omega arith), (refl, omega arith, omega arith)))))
+        whole_in s top RestIn (p + 12) _ (omega arith)
+        (λ h. choice-in s top RestIn (eqb (get_or s (p + 1) 0) 0) _ _
+        (bounded-in s top RestIn (length_at s p) _ (λ g. whole_in s top RestIn (p + 12 + length_at s p) _ (omega arith) (λ i. ((omega arith, omega arith, omega arith), (refl, omega arith, omega arith)))))
         ((omega arith, omega arith, omega arith), (refl, omega arith, omega arith)))
 
-    bytes-in : (slot count q : ℕ) → p < q → q ≤ p + 20 → count ≤ 16384 → Within s low top (bytes_at s time slot count q)
-    unfolding bytes_at
-    bytes-in slot count q h i b =
-        whole_in (q + count) (event_of time (q + count) (kinds.Write slot q)) (omega arith) (λ e. ((omega arith, omega arith, omega arith), (omega arith, omega arith)))
-
-    count-in : (kind slot q : ℕ) → p < q → q ≤ p + 10 → Within s low top (count_at s kind time slot q)
+    count-then : (q : ℕ) (g : Number → Reading (Kind × ℕ)) → p < q → q ≤ p + 10
+        → ((n : Number) → n.value ≤ 16384 → NextIn s q 10 n → ReadIn s top RestIn (g n)) → ReadIn s top RestIn (count_at s q >>= g)
     unfolding count_at
-    count-in kind slot q h i =
-        after-in q (λ count r. bounded count (cond (eqb kind 3) (event_of time r (kinds.Read slot count)) (bytes_at s time slot count r))) (omega arith) (omega arith)
-        (λ count r h' i' j'. bounded-in count _
-        (λ b. choice-in (eqb kind 3) (event_of time r (kinds.Read slot count)) _ ((omega arith, omega arith, omega arith), b) (bytes-in slot count r (omega arith) (omega arith) b)))
+    count-then q g h i k =
+        let C : Number → Type 0 = λ n. (n.value ≤ 16384) × NextIn s q 10 n in
+        then_in s top C RestIn (count_at s q) g
+        (number-then s top C q _ (omega arith) (λ n j. bounded-in s top C n.value (Ok n) (λ b. (b, j))))
+        (λ n j. k n j.0 j.1)
 
-    slot-in : (kind : ℕ) → Within s low top (slot_at s kind time p)
-    unfolding slot_at
-    slot-in kind =
-        after-in p (λ slot q. cond (eqb kind 5) (event_of time q (kinds.Close slot)) (cond (eqb kind 6) (event_of time q (kinds.Drop slot)) (count_at s kind time slot q))) (omega arith) (omega arith)
-        (λ slot q h i j. let here : Spans s low top q × Unit = ((omega arith, omega arith, omega arith), tt) in
-        choice-in (eqb kind 5) (event_of time q (kinds.Close slot)) _ here (choice-in (eqb kind 6) (event_of time q (kinds.Drop slot)) _ here (count-in kind slot q h j)))
+    read-in : ReadIn s top RestIn (read_at s p)
+    unfolding read_at
+    read-in =
+        number-then s top RestIn p _ (omega arith)
+        (λ slot h. count-then slot.next _ h.0 h.2 (λ n b i. ((omega arith, i.1, omega arith), b)))
 
-    rest_in : (kind : ℕ) → Within s low top (rest_at s kind time p)
-    unfolding rest_at
-    rest_in kind =
-        let now-here : Spans s low top p × Unit = ((l, f, omega arith), tt) in
-        choice-in (eqb kind 0) _ _ now-here
-        (choice-in (eqb kind 1) _ _ frame-in
-        (choice-in (eqb kind 2) _ _ now-here (choice-in (ltb kind 7) _ _ (slot-in kind) now-here)))
+    write-in : ReadIn s top RestIn (write_at s p)
+    unfolding write_at
+    write-in =
+        number-then s top RestIn p _ (omega arith)
+        (λ slot h. count-then slot.next _ h.0 h.2
+        (λ n b i. whole_in s top RestIn (n.next + n.value) _ (omega arith) (λ e. ((omega arith, e, omega arith), (omega arith, omega arith)))))
+
+    close-in : ReadIn s top RestIn (close_at s p)
+    unfolding close_at
+    close-in = number-then s top RestIn p _ (omega arith) (λ slot h. ((omega arith, h.1, omega arith), tt))
+
+    drop-in : ReadIn s top RestIn (drop_at s p)
+    unfolding drop_at
+    drop-in = number-then s top RestIn p _ (omega arith) (λ slot h. ((omega arith, h.1, omega arith), tt))
+
+    rest_in : (c : Code) → ReadIn s top RestIn (rest_at s c p)
+    rest_in codes.Tick = ((l, f, omega arith), tt)
+    rest_in codes.Frame = frame-in
+    rest_in codes.Open = ((l, f, omega arith), tt)
+    rest_in codes.Read = read-in
+    rest_in codes.Write = write-in
+    rest_in codes.Close = close-in
+    rest_in codes.Drop = drop-in
+    rest_in codes.Gone = ((l, f, omega arith), tt)
+
+-- a code is not cut short
+code-in : (s : List ℕ) (top n : ℕ) → ReadIn s top (λ (c : Code). Unit) (code_of n)
+code-in s top n =
+    let U : Code → Type 0 = λ c. Unit in
+    choice-in s top U (eqb n 0) _ _ tt
+    (choice-in s top U (eqb n 1) _ _ tt
+    (choice-in s top U (eqb n 2) _ _ tt
+    (choice-in s top U (eqb n 3) _ _ tt
+    (choice-in s top U (eqb n 4) _ _ tt
+    (choice-in s top U (eqb n 5) _ _ tt (choice-in s top U (eqb n 6) _ _ tt (choice-in s top U (eqb n 7) _ _ tt tt)))))))
 
 -- what is read at a place lies inside the input
 pub event_in : (s : List ℕ) (at : ℕ) → Within s at (at + longest) (event_at s at)
-unfolding event_at time_at
+unfolding event_at
 event_in s at =
     let top : ℕ = at + longest in
-    after-in s at top at (λ kind p. time_at s kind p) (omega arith) (omega arith)
-    (λ kind p h i j. choice-in s at top (ltb 7 kind) parsed.Bad (after (number_at s p) (λ time q. rest_at s kind time q)) tt
-    (after-in s at top p (λ time q. rest_at s kind time q) (omega arith) (omega arith)
-    (λ time q h' i' j'. rest_in s at top time q (omega arith) i' (omega arith) kind)))
+    let E : Event → Type 0 = λ e. Spans s at top e.next × Lies e.next e.kind in
+    number-then s top E at _ (omega arith)
+    (λ first h. then_in s top (λ (c : Code). Unit) E (code_of first.value) _ (code-in s top first.value)
+    (λ code u. number-then s top E first.next _ (omega arith)
+    (λ time i. then_in s top (RestIn s at top) E (rest_at s code time.next) _ (rest_in s at top time.next (omega arith) i.1 (omega arith) code)
+    (λ rest j. j))))
 
 -- where 16,424 bytes are there, an event is whole or unreadable
-pub never_short : (s : List ℕ) (at : ℕ) → at + longest ≤ length s → event_at s at ≡ parsed.Short → ⊥
+pub never_short : (s : List ℕ) (at : ℕ) → at + longest ≤ length s → event_at s at ≡ Err Short → ⊥
 never_short s at h e = let l : length s < at + longest = rw e at (event_in s at) in omega arith

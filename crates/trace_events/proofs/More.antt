@@ -1,24 +1,18 @@
 -- Cutting: what is read from a part of a trace is what is read from a longer part, but for Short. Assumes nothing.
-use mathlib.Core.Path.{◌≡◌, refl, ap, ◌∙◌}
-use mathlib.Core.Logic.{◌⊎◌, inl, inr}
-use mathlib.Core.Bool.{Bool, true, false, cond}
-use mathlib.Core.List.{List, ◌++◌}
-use Prim.Native.Nat.{ℕ, zero, suc, ◌+◌, ◌-◌, ◌*◌, ◌%◌, ◌^◌, ◌≤◌, ◌<◌}
-use native.Mathlib.Omega.{arith}
-use lib.ListN.{length, get_or, take, drop, length-append, length-drop, get_or-append}
+use lib.ListN.{get_or-append}
 use lib.Seq.{take-append-le, drop-append-le}
-use lib.Dec.{eqb, ltb, leb}
-use borrow.Author.Tests.{lt-ltb, le-leb, ltb-true, leb-true}
-use Rattle.trace_events.specs.Numbers.{groups, number_at}
-use Rattle.trace_events.specs.Format.{after, whole, length_at, frame_at, bytes_at, count_at, slot_at, rest_at, time_at, event_at}
+use Rattle.std.proofs.Common.{Ok, Err, ◌≡◌, refl, ap, ◌∙◌, ◌⊎◌, inl, inr, Bool, true, false, cond, List, ◌++◌, ℕ, zero, suc, ◌+◌, ◌-◌, ◌*◌, ◌%◌, ◌^◌, ◌≤◌, ◌<◌, arith, length, get_or, take, drop, length-append, length-drop, eqb, ltb, leb, lt-ltb, le-leb, ltb-true, leb-true}
+use Rattle.trace_events.specs.Numbers.{Reading, ◌>>=◌, groups, number_at}
+use Rattle.trace_events.specs.Format.{whole, length_at, frame_at, count_at, read_at, write_at, close_at, drop_at, rest_at, event_at}
 use Rattle.trace_events.specs.Calls.{short, part, Lies, Within, call_of, found_in, call_at}
 use Rattle.trace_events.proofs.Inside.{event_in}
 use Rattle.trace_events.specs.declared.Number.{Number}
-use Rattle.trace_events.specs.declared.Number.TheVariants as number
 use Rattle.trace_events.specs.declared.Kind.{Kind}
 use Rattle.trace_events.specs.declared.Kind.TheVariants as kinds
-use Rattle.trace_events.specs.declared.Parsed.{Parsed}
-use Rattle.trace_events.specs.declared.Parsed.TheVariants as parsed
+use Rattle.trace_events.specs.declared.Event.{Event}
+use Rattle.trace_events.specs.declared.Code.{Code}
+use Rattle.trace_events.specs.declared.Code.TheVariants as codes
+use Rattle.trace_events.specs.declared.Unreadable.TheVariants.{Short, Bad}
 
 -- a reading of a part, and of a longer part: the first is cut short, or they are the same
 abbrev pub Settles : {A : Type 0} → A → A → A → Type 0
@@ -28,87 +22,102 @@ choice_settles : {A : Type 0} (z : A) (t : Bool) {a b a' b' : A} → Settles z a
 choice_settles z true x y = x
 choice_settles z false x y = y
 
+pub then_more : {A B : Type 0} (r r' : Reading A) (f g : A → Reading B) → Settles (Err Short) r r'
+    → ((x : A) → Settles (Err Short) (f x) (g x)) → Settles (Err Short) (r >>= f) (r' >>= g)
+then_more r r' f g (inl e) h = inl (rw e)
+then_more {A} r r' f g (inr e) h = rw e (go r)
+  where
+    go : (x : Reading A) → Settles (Err Short) (x >>= f) (x >>= g)
+    go (Ok x) = h x
+    go (Err x) = inr refl
+
 module _ (s m : List ℕ) where
   longer : (n : ℕ) → n ≤ length s → n ≤ length (s ++ m)
   longer n h = rw length-append (omega arith)
 
-  pub groups-more : (k at w v : ℕ) → Settles number.Short (groups k s at w v) (groups k (s ++ m) at w v)
+  pub groups-more : (k at w v : ℕ) → Settles (Err Short) (groups k s at w v) (groups k (s ++ m) at w v)
   unfolding groups
   groups-more zero at w v = inr refl
   groups-more (suc k) at w v = go (ltb at (length s)) refl (groups-more k (at + 1) (w * 128) (v + get_or s at 0 % 128 * w))
     where
       go : (t : Bool) → ltb at (length s) ≡ t
-          → Settles number.Short (groups k s (at + 1) (w * 128) (v + get_or s at 0 % 128 * w)) (groups k (s ++ m) (at + 1) (w * 128) (v + get_or s at 0 % 128 * w))
-          → Settles number.Short (groups (suc k) s at w v) (groups (suc k) (s ++ m) at w v)
+          → Settles (Err Short) (groups k s (at + 1) (w * 128) (v + get_or s at 0 % 128 * w)) (groups k (s ++ m) (at + 1) (w * 128) (v + get_or s at 0 % 128 * w))
+          → Settles (Err Short) (groups (suc k) s at w v) (groups (suc k) (s ++ m) at w v)
       go true q ih =
           let h : at < length s = ltb-true _ _ q in
           let e : get_or (s ++ m) at 0 ≡ get_or s at 0 = get_or-append s m 0 at h in
           rw (q, lt-ltb at (length (s ++ m)) (longer (suc at) h), e)
-          (choice_settles number.Short (ltb (v + get_or s at 0 % 128 * w) (2 ^ 64))
-          (choice_settles number.Short (ltb (get_or s at 0) 128) (inr refl) ih)
+          (choice_settles (Err Short) (ltb (v + get_or s at 0 % 128 * w) (2 ^ 64))
+          (choice_settles (Err Short) (ltb (get_or s at 0) 128) (inr refl) ih)
           (inr refl))
       go false q ih = inl (rw q)
 
-  pub number_more : (at : ℕ) → Settles number.Short (number_at s at) (number_at (s ++ m) at)
+  pub number_more : (at : ℕ) → Settles (Err Short) (number_at s at) (number_at (s ++ m) at)
   unfolding number_at
   number_more at = groups-more 10 at 1 0
 
-  after_more : (n n' : Number) (f g : ℕ → ℕ → Parsed) → Settles number.Short n n'
-      → ((v p : ℕ) → Settles parsed.Short (f v p) (g v p)) → Settles parsed.Short (after n f) (after n' g)
-  after_more n n' f g (inl e) h = inl (rw e)
-  after_more n n' f g (inr e) h = rw e (go n)
-    where
-      go : (x : Number) → Settles parsed.Short (after x f) (after x g)
-      go (number.Value v p) = h v p
-      go number.Short = inr refl
-      go number.Bad = inr refl
+  -- what follows a number from a longer part
+  pub number-then_more : {B : Type 0} (at : ℕ) (f g : Number → Reading B) → ((n : Number) → Settles (Err Short) (f n) (g n))
+      → Settles (Err Short) (number_at s at >>= f) (number_at (s ++ m) at >>= g)
+  number-then_more at f g h = then_more (number_at s at) (number_at (s ++ m) at) f g (number_more at) h
 
-  whole-more : (end : ℕ) (e e' : Parsed) → (end ≤ length s → Settles parsed.Short e e') → Settles parsed.Short (whole s end e) (whole (s ++ m) end e')
-  whole-more end e e' g = go (leb end (length s)) refl
+  whole-more : {A : Type 0} (end : ℕ) (r r' : Reading A) → (end ≤ length s → Settles (Err Short) r r') → Settles (Err Short) (whole s end r) (whole (s ++ m) end r')
+  whole-more end r r' g = go (leb end (length s)) refl
     where
-      go : (t : Bool) → leb end (length s) ≡ t → Settles parsed.Short (cond t e parsed.Short) (whole (s ++ m) end e')
+      go : (t : Bool) → leb end (length s) ≡ t → Settles (Err Short) (cond t r (Err Short)) (whole (s ++ m) end r')
       go true q = let h : end ≤ length s = leb-true _ _ q in rw (le-leb end (length (s ++ m)) (longer end h)) (g h)
       go false q = inl refl
 
   at_more : (end i : ℕ) → end ≤ length s → i < end → get_or (s ++ m) i 0 ≡ get_or s i 0
   at_more end i h l = get_or-append s m 0 i (omega arith)
 
-  frame-more : (time p : ℕ) → Settles parsed.Short (frame_at s time p) (frame_at (s ++ m) time p)
+  frame-more : (p : ℕ) → Settles (Err Short) (frame_at s p) (frame_at (s ++ m) p)
   unfolding frame_at
-  frame-more time p =
+  frame-more p =
       whole-more (p + 12) _ _
       (λ h. rw (at_more (p + 12) (p + 1) h (omega arith), at_more (p + 12) (p + 8) h (omega arith), at_more (p + 12) (p + 9) h (omega arith), at_more (p + 12) (p + 10) h (omega arith), at_more (p + 12) (p + 11) h (omega arith))
-      (choice_settles parsed.Short (eqb (get_or s (p + 1) 0) 0)
-      (choice_settles parsed.Short (ltb 16384 (length_at s p)) (inr refl) (whole-more (p + 12 + length_at s p) _ _ (λ i. inr refl)))
+      (choice_settles (Err Short) (eqb (get_or s (p + 1) 0) 0)
+      (choice_settles (Err Short) (ltb 16384 (length_at s p)) (inr refl) (whole-more (p + 12 + length_at s p) _ _ (λ i. inr refl)))
       (inr refl)))
 
-  count-more : (kind time slot p : ℕ) → Settles parsed.Short (count_at s kind time slot p) (count_at (s ++ m) kind time slot p)
-  unfolding count_at bytes_at
-  count-more kind time slot p =
-      after_more _ _ _ _ (number_more p)
-      (λ count q. choice_settles parsed.Short (ltb 16384 count) (inr refl)
-      (choice_settles parsed.Short (eqb kind 3) (inr refl) (whole-more (q + count) _ _ (λ i. inr refl))))
+  count-more : (p : ℕ) → Settles (Err Short) (count_at s p) (count_at (s ++ m) p)
+  unfolding count_at
+  count-more p = number-then_more p _ _ (λ n. inr refl)
 
-  slot-more : (kind time p : ℕ) → Settles parsed.Short (slot_at s kind time p) (slot_at (s ++ m) kind time p)
-  unfolding slot_at
-  slot-more kind time p =
-      after_more _ _ _ _ (number_more p)
-      (λ slot q. choice_settles parsed.Short (eqb kind 5) (inr refl)
-      (choice_settles parsed.Short (eqb kind 6) (inr refl) (count-more kind time slot q)))
+  read-more : (p : ℕ) → Settles (Err Short) (read_at s p) (read_at (s ++ m) p)
+  unfolding read_at
+  read-more p = number-then_more p _ _ (λ slot. then_more _ _ _ _ (count-more slot.next) (λ n. inr refl))
 
-  rest_more : (kind time p : ℕ) → Settles parsed.Short (rest_at s kind time p) (rest_at (s ++ m) kind time p)
-  unfolding rest_at
-  rest_more kind time p =
-      choice_settles parsed.Short (eqb kind 0) (inr refl)
-      (choice_settles parsed.Short (eqb kind 1) (frame-more time p)
-      (choice_settles parsed.Short (eqb kind 2) (inr refl) (choice_settles parsed.Short (ltb kind 7) (slot-more kind time p) (inr refl))))
+  write-more : (p : ℕ) → Settles (Err Short) (write_at s p) (write_at (s ++ m) p)
+  unfolding write_at
+  write-more p =
+      number-then_more p _ _ (λ slot. then_more _ _ _ _ (count-more slot.next) (λ n. whole-more (n.next + n.value) _ _ (λ i. inr refl)))
+
+  close-more : (p : ℕ) → Settles (Err Short) (close_at s p) (close_at (s ++ m) p)
+  unfolding close_at
+  close-more p = number-then_more p _ _ (λ slot. inr refl)
+
+  drop-more : (p : ℕ) → Settles (Err Short) (drop_at s p) (drop_at (s ++ m) p)
+  unfolding drop_at
+  drop-more p = number-then_more p _ _ (λ slot. inr refl)
+
+  rest_more : (c : Code) (p : ℕ) → Settles (Err Short) (rest_at s c p) (rest_at (s ++ m) c p)
+  rest_more codes.Tick p = inr refl
+  rest_more codes.Frame p = frame-more p
+  rest_more codes.Open p = inr refl
+  rest_more codes.Read p = read-more p
+  rest_more codes.Write p = write-more p
+  rest_more codes.Close p = close-more p
+  rest_more codes.Drop p = drop-more p
+  rest_more codes.Gone p = inr refl
 
   -- an event that is read, or unreadable, stays so whatever comes after
-  pub event-more : (at : ℕ) → Settles parsed.Short (event_at s at) (event_at (s ++ m) at)
-  unfolding event_at time_at
+  pub event-more : (at : ℕ) → Settles (Err Short) (event_at s at) (event_at (s ++ m) at)
+  unfolding event_at
   event-more at =
-      after_more _ _ _ _ (number_more at)
-      (λ kind p. choice_settles parsed.Short (ltb 7 kind) (inr refl) (after_more _ _ _ _ (number_more p) (λ time q. rest_more kind time q)))
+      number-then_more at _ _
+      (λ first. then_more _ _ _ _ (inr refl)
+      (λ code. number-then_more first.next _ _ (λ time. then_more _ _ _ _ (rest_more code time.next) (λ rest. inr refl))))
 
   part-more : (from to : ℕ) → from ≤ to → to ≤ length s → part (s ++ m) from to ≡ part s from to
   part-more from to h l =
@@ -126,16 +135,16 @@ module _ (s m : List ℕ) where
   kind-more now next (kinds.Drop slot) l h = refl
   kind-more now next kinds.Gone l h = refl
 
-  found-more : (low top : ℕ) (e : Parsed) → Within s low top e → found_in (s ++ m) e ≡ found_in s e
-  found-more low top (parsed.Event e) h = rw (kind-more e.now e.next e.kind h.0.1 h.1)
-  found-more low top parsed.Short h = refl
-  found-more low top parsed.Bad h = refl
+  found-more : (low top : ℕ) (r : Reading Event) → Within s low top r → found_in (s ++ m) r ≡ found_in s r
+  found-more low top (Ok e) h = rw (kind-more e.now e.next e.kind h.0.1 h.1)
+  found-more low top (Err Short) h = refl
+  found-more low top (Err Bad) h = refl
 
   -- a longer part has the same call, unless it was too short
   pub call-more : (at : ℕ) → Settles short (call_at s at) (call_at (s ++ m) at)
   unfolding call_at
   call-more at = go (event-more at)
     where
-      go : Settles parsed.Short (event_at s at) (event_at (s ++ m) at) → Settles short (found_in s (event_at s at)) (found_in (s ++ m) (event_at (s ++ m) at))
+      go : Settles (Err Short) (event_at s at) (event_at (s ++ m) at) → Settles short (found_in s (event_at s at)) (found_in (s ++ m) (event_at (s ++ m) at))
       go (inl e) = inl (rw e)
       go (inr e) = inr (rw e (found-more at _ (event_at s at) (event_in s at)))

@@ -1,29 +1,25 @@
 -- Moving: what is read of a trace from a place on is what is read there of the trace without its first bytes, as many places
 -- further on. Assumes nothing.
-use mathlib.Core.Path.{◌≡◌, refl, sym, ap, ◌∙◌}
-use mathlib.Core.Bool.{Bool, true, false, cond}
-use mathlib.Core.List.{List}
-use Prim.Native.Nat.{ℕ, zero, suc, ◌+◌, ◌-◌, ◌*◌, ◌%◌, ◌≤◌, ◌<◌}
-use native.Mathlib.Nat.{add_assoc}
-use native.Mathlib.Omega.{arith}
-use lib.ListN.{length, get_or, drop, length-drop}
-use lib.Seq.{get_or-drop, drop-drop}
-use lib.Dec.{eqb, ltb, leb}
-use borrow.Author.Tests.{lt-ltb, le-ltb, le-leb, lt-leb, ltb-true, ltb-false, leb-true, leb-false}
-use Rattle.trace_events.specs.Numbers.{groups, number_at}
-use Rattle.trace_events.specs.Format.{after, whole, bounded, length_at, event_of, frame_at, bytes_at, count_at, slot_at, rest_at, time_at, event_at}
+use borrow.Author.Tests.{lt-leb}
+use Rattle.std.proofs.Common.{Ok, Err, ◌≡◌, refl, sym, ap, ◌∙◌, Bool, true, false, cond, List, ℕ, zero, suc, ◌+◌, ◌-◌, ◌*◌, ◌%◌, ◌^◌, ◌≤◌, ◌<◌, add_assoc, arith, length, get_or, drop, length-drop, get_or-drop, drop-drop, eqb, ltb, leb, lt-ltb, le-ltb, le-leb, ltb-true, ltb-false, leb-true, leb-false}
+use Rattle.trace_events.specs.Numbers.{Reading, ◌>>=◌, groups, number_at}
+use Rattle.trace_events.specs.Format.{whole, bounded, length_at, frame_at, count_at, read_at, write_at, close_at, drop_at, code_of, rest_at, event_at}
 use Rattle.trace_events.specs.Calls.{part, call_of, found_in, call_at, later}
 use Rattle.trace_events.specs.declared.Number.{Number}
-use Rattle.trace_events.specs.declared.Number.TheVariants as number
 use Rattle.trace_events.specs.declared.Kind.{Kind}
 use Rattle.trace_events.specs.declared.Kind.TheVariants as kinds
-use Rattle.trace_events.specs.declared.Parsed.{Parsed}
-use Rattle.trace_events.specs.declared.Parsed.TheVariants as parsed
+use Rattle.trace_events.specs.declared.Event.{Event}
+use Rattle.trace_events.specs.declared.Code.{Code}
+use Rattle.trace_events.specs.declared.Code.TheVariants as codes
+use Rattle.trace_events.specs.declared.Unreadable.TheVariants.{Short, Bad}
+
+-- what is read, moved
+abbrev pub moved : {A B : Type 0} → (A → B) → Reading A → Reading B
+moved m (Ok x) = Ok (m x)
+moved m (Err e) = Err e
 
 abbrev number-later : ℕ → Number → Number
-number-later k (number.Value v p) = number.Value v (k + p)
-number-later k number.Short = number.Short
-number-later k number.Bad = number.Bad
+number-later k n = record { value = n.value; next = k + n.next }
 
 abbrev pub kind_later : ℕ → Kind → Kind
 kind_later k kinds.Tick = kinds.Tick
@@ -35,18 +31,25 @@ kind_later k (kinds.Close slot) = kinds.Close slot
 kind_later k (kinds.Drop slot) = kinds.Drop slot
 kind_later k kinds.Gone = kinds.Gone
 
-abbrev pub event-later : ℕ → Parsed → Parsed
-event-later k (parsed.Event e) = event_of e.now (k + e.next) (kind_later k e.kind)
-event-later k parsed.Short = parsed.Short
-event-later k parsed.Bad = parsed.Bad
+abbrev rest-later : ℕ → Kind × ℕ → Kind × ℕ
+rest-later k r = (kind_later k r.0, k + r.1)
 
-number_choice : (k : ℕ) (t : Bool) (a b : Number) → number-later k (cond t a b) ≡ cond t (number-later k a) (number-later k b)
-number_choice k true a b = refl
-number_choice k false a b = refl
+abbrev pub event-later : ℕ → Event → Event
+event-later k e = record { now = e.now; next = k + e.next; kind = kind_later k e.kind }
 
-choice_later : (k : ℕ) (t : Bool) (a b : Parsed) {a' b' : Parsed} → a' ≡ event-later k a → b' ≡ event-later k b → cond t a' b' ≡ event-later k (cond t a b)
-choice_later k true a b x y = x
-choice_later k false a b x y = y
+choice_later : {A B : Type 0} (m : A → B) (t : Bool) (a b : Reading A) {a' b' : Reading B} → a' ≡ moved m a → b' ≡ moved m b → cond t a' b' ≡ moved m (cond t a b)
+choice_later m true a b x y = x
+choice_later m false a b x y = y
+
+then_later : {A B : Type 0} (m : A → A) (n : B → B) (r r' : Reading A) (f g : A → Reading B) → r' ≡ moved m r
+    → ((x : A) → g (m x) ≡ moved n (f x)) → r' >>= g ≡ moved n (r >>= f)
+then_later m n (Ok x) r' f g e h = rw e (h x)
+then_later m n (Err x) r' f g e h = rw e
+
+-- what follows a reading that is the same at both places
+then_same : {A B : Type 0} (n : B → B) (r : Reading A) (f g : A → Reading B) → ((x : A) → g x ≡ moved n (f x)) → r >>= g ≡ moved n (r >>= f)
+then_same n (Ok x) f g h = h x
+then_same n (Err x) f g h = refl
 
 below_later : (k at n : ℕ) → ltb (k + at) n ≡ ltb at (n - k)
 below_later k at n = go (ltb (k + at) n) refl
@@ -63,77 +66,93 @@ module _ (s : List ℕ) (k : ℕ) (fits : k ≤ length s) where
       go true q = let h : k + end ≤ length s = leb-true _ _ q in sym (le-leb end (length s - k) (omega arith))
       go false q = let h : length s < k + end = leb-false _ _ q in sym (lt-leb end (length s - k) (omega arith))
 
-  pub groups-later : (j at w v : ℕ) → groups j s (k + at) w v ≡ number-later k (groups j (drop k s) at w v)
+  pub groups-later : (j at w v : ℕ) → groups j s (k + at) w v ≡ moved (number-later k) (groups j (drop k s) at w v)
   unfolding groups
   groups-later zero at w v = refl
   groups-later (suc j) at w v =
       let ih = groups-later j (at + 1) (w * 128) (v + get_or s (k + at) 0 % 128 * w) in
-      rw (number_choice, number_choice, number_choice, get_or-drop, length-drop, ← below_later k at (length s), add_assoc k at 1, ih)
+      let n : Number → Number = number-later k in
+      rw (get_or-drop, length-drop, ← below_later k at (length s), add_assoc k at 1)
+      (choice_later n (ltb (k + at) (length s)) _ (Err Short)
+      (choice_later n (ltb (v + get_or s (k + at) 0 % 128 * w) (2 ^ 64)) _ (Err Bad)
+      (choice_later n (ltb (get_or s (k + at) 0) 128) (Ok (record { value = v + get_or s (k + at) 0 % 128 * w; next = at + 1 })) _ refl ih)
+      refl)
+      refl)
 
-  pub number-later-at : (at : ℕ) → number_at s (k + at) ≡ number-later k (number_at (drop k s) at)
+  pub number-later-at : (at : ℕ) → number_at s (k + at) ≡ moved (number-later k) (number_at (drop k s) at)
   unfolding number_at
   number-later-at at = groups-later 10 at 1 0
 
-  after-later : (n n' : Number) (f g : ℕ → ℕ → Parsed) → n' ≡ number-later k n
-      → ((v p : ℕ) → g v (k + p) ≡ event-later k (f v p)) → after n' g ≡ event-later k (after n f)
-  after-later (number.Value v p) n' f g e h = rw e (h v p)
-  after-later number.Short n' f g e h = rw e
-  after-later number.Bad n' f g e h = rw e
+  -- what follows a number further on
+  number-then_later : {B : Type 0} (m : B → B) (at : ℕ) (f g : Number → Reading B) → ((n : Number) → g (number-later k n) ≡ moved m (f n))
+      → number_at s (k + at) >>= g ≡ moved m (number_at (drop k s) at >>= f)
+  number-then_later m at f g h = then_later (number-later k) m (number_at (drop k s) at) (number_at s (k + at)) f g (number-later-at at) h
 
-  whole-later : (end : ℕ) (e e' : Parsed) → e' ≡ event-later k e → whole s (k + end) e' ≡ event-later k (whole (drop k s) end e)
-  whole-later end e e' h = rw (inside-later end) (choice_later k (leb end (length (drop k s))) e parsed.Short h refl)
+  whole-later : {A : Type 0} (m : A → A) (end : ℕ) (r r' : Reading A) → r' ≡ moved m r → whole s (k + end) r' ≡ moved m (whole (drop k s) end r)
+  whole-later m end r r' h = rw (inside-later end) (choice_later m (leb end (length (drop k s))) r (Err Short) h refl)
 
   length-later : (p : ℕ) → length_at s (k + p) ≡ length_at (drop k s) p
   length-later p = simp (get_or-drop, add_assoc)
 
-  frame-later : (time p : ℕ) → frame_at s time (k + p) ≡ event-later k (frame_at (drop k s) time p)
+  frame-later : (p : ℕ) → frame_at s (k + p) ≡ moved (rest-later k) (frame_at (drop k s) p)
   unfolding frame_at
-  frame-later time p =
+  frame-later p =
       let n = length_at (drop k s) p in
+      let m : Kind × ℕ → Kind × ℕ = rest-later k in
+      let r : Reading (Kind × ℕ) = Ok (kinds.Frame p (p + 12), p + 12 + n) in
+      let h : Reading (Kind × ℕ) = Ok (kinds.Frame p (p + 12), p + 12) in
       rw (length-later p, get_or-drop k s (p + 1) 0, add_assoc k p 1, add_assoc k p 12, add_assoc k (p + 12) n)
-      (whole-later (p + 12) _ _
-      (choice_later k (eqb (get_or s (k + (p + 1)) 0) 0)
-      (bounded n (whole (drop k s) (p + 12 + n) (event_of time (p + 12 + n) (kinds.Frame p (p + 12))))) (event_of time (p + 12) (kinds.Frame p (p + 12)))
-      (choice_later k (ltb 16384 n) parsed.Bad (whole (drop k s) (p + 12 + n) (event_of time (p + 12 + n) (kinds.Frame p (p + 12)))) refl (whole-later (p + 12 + n) (event_of time (p + 12 + n) (kinds.Frame p (p + 12))) _ refl))
+      (whole-later m (p + 12) _ _
+      (choice_later m (eqb (get_or s (k + (p + 1)) 0) 0) (bounded n (whole (drop k s) (p + 12 + n) r)) h
+      (choice_later m (ltb 16384 n) (Err Bad) (whole (drop k s) (p + 12 + n) r) refl (whole-later m (p + 12 + n) r _ refl))
       refl))
 
-  bytes-later : (time slot count p : ℕ) → bytes_at s time slot count (k + p) ≡ event-later k (bytes_at (drop k s) time slot count p)
-  unfolding bytes_at
-  bytes-later time slot count p = rw (add_assoc k p count) (whole-later (p + count) (event_of time (p + count) (kinds.Write slot p)) _ refl)
-
-  count-later : (kind time slot p : ℕ) → count_at s kind time slot (k + p) ≡ event-later k (count_at (drop k s) kind time slot p)
+  count-later : (p : ℕ) → count_at s (k + p) ≡ moved (number-later k) (count_at (drop k s) p)
   unfolding count_at
-  count-later kind time slot p =
-      after-later (number_at (drop k s) p) _
-      (λ count q. bounded count (cond (eqb kind 3) (event_of time q (kinds.Read slot count)) (bytes_at (drop k s) time slot count q))) _
-      (number-later-at p)
-      (λ count q. choice_later k (ltb 16384 count) parsed.Bad (cond (eqb kind 3) (event_of time q (kinds.Read slot count)) (bytes_at (drop k s) time slot count q)) refl
-      (choice_later k (eqb kind 3) (event_of time q (kinds.Read slot count)) _ refl (bytes-later time slot count q)))
+  count-later p = number-then_later (number-later k) p _ _ (λ n. choice_later (number-later k) (ltb 16384 n.value) (Err Bad) (Ok n) refl refl)
 
-  slot-later : (kind time p : ℕ) → slot_at s kind time (k + p) ≡ event-later k (slot_at (drop k s) kind time p)
-  unfolding slot_at
-  slot-later kind time p =
-      after-later (number_at (drop k s) p) _
-      (λ slot q. cond (eqb kind 5) (event_of time q (kinds.Close slot)) (cond (eqb kind 6) (event_of time q (kinds.Drop slot)) (count_at (drop k s) kind time slot q))) _
-      (number-later-at p)
-      (λ slot q. choice_later k (eqb kind 5) (event_of time q (kinds.Close slot)) (cond (eqb kind 6) (event_of time q (kinds.Drop slot)) (count_at (drop k s) kind time slot q)) refl
-      (choice_later k (eqb kind 6) (event_of time q (kinds.Drop slot)) _ refl (count-later kind time slot q)))
+  -- what follows a count further on
+  count-then_later : (p : ℕ) (f g : Number → Reading (Kind × ℕ)) → ((n : Number) → g (number-later k n) ≡ moved (rest-later k) (f n))
+      → count_at s (k + p) >>= g ≡ moved (rest-later k) (count_at (drop k s) p >>= f)
+  count-then_later p f g h = then_later (number-later k) (rest-later k) (count_at (drop k s) p) (count_at s (k + p)) f g (count-later p) h
 
-  rest-later : (kind time p : ℕ) → rest_at s kind time (k + p) ≡ event-later k (rest_at (drop k s) kind time p)
-  unfolding rest_at
-  rest-later kind time p =
-      choice_later k (eqb kind 0) _ _ refl
-      (choice_later k (eqb kind 1) _ _ (frame-later time p)
-      (choice_later k (eqb kind 2) _ _ refl (choice_later k (ltb kind 7) _ _ (slot-later kind time p) refl)))
+  read-later : (p : ℕ) → read_at s (k + p) ≡ moved (rest-later k) (read_at (drop k s) p)
+  unfolding read_at
+  read-later p = number-then_later (rest-later k) p _ _ (λ slot. count-then_later slot.next _ _ (λ n. refl))
 
-  pub event-later-at : (at : ℕ) → event_at s (k + at) ≡ event-later k (event_at (drop k s) at)
-  unfolding event_at time_at
+  write-later : (p : ℕ) → write_at s (k + p) ≡ moved (rest-later k) (write_at (drop k s) p)
+  unfolding write_at
+  write-later p =
+      number-then_later (rest-later k) p _ _
+      (λ slot. count-then_later slot.next _ _
+      (λ n. rw (add_assoc k n.next n.value) (whole-later (rest-later k) (n.next + n.value) (Ok (kinds.Write slot.value n.next, n.next + n.value)) _ refl)))
+
+  close-later : (p : ℕ) → close_at s (k + p) ≡ moved (rest-later k) (close_at (drop k s) p)
+  unfolding close_at
+  close-later p = number-then_later (rest-later k) p _ _ (λ slot. refl)
+
+  drop-later : (p : ℕ) → drop_at s (k + p) ≡ moved (rest-later k) (drop_at (drop k s) p)
+  unfolding drop_at
+  drop-later p = number-then_later (rest-later k) p _ _ (λ slot. refl)
+
+  rest-later-at : (c : Code) (p : ℕ) → rest_at s c (k + p) ≡ moved (rest-later k) (rest_at (drop k s) c p)
+  rest-later-at codes.Tick p = refl
+  rest-later-at codes.Frame p = frame-later p
+  rest-later-at codes.Open p = refl
+  rest-later-at codes.Read p = read-later p
+  rest-later-at codes.Write p = write-later p
+  rest-later-at codes.Close p = close-later p
+  rest-later-at codes.Drop p = drop-later p
+  rest-later-at codes.Gone p = refl
+
+  pub event-later-at : (at : ℕ) → event_at s (k + at) ≡ moved (event-later k) (event_at (drop k s) at)
+  unfolding event_at
   event-later-at at =
-      after-later (number_at (drop k s) at) _
-      (λ kind p. cond (ltb 7 kind) parsed.Bad (after (number_at (drop k s) p) (λ time q. rest_at (drop k s) kind time q))) _
-      (number-later-at at)
-      (λ kind p. choice_later k (ltb 7 kind) parsed.Bad (after (number_at (drop k s) p) (λ time q. rest_at (drop k s) kind time q)) refl
-      (after-later (number_at (drop k s) p) _ (λ time q. rest_at (drop k s) kind time q) _ (number-later-at p) (λ time q. rest-later kind time q)))
+      number-then_later (event-later k) at _ _
+      (λ first. then_same (event-later k) (code_of first.value) _ _
+      (λ code. number-then_later (event-later k) first.next _ _
+      (λ time. then_later (rest-later k) (event-later k) (rest_at (drop k s) code time.next) (rest_at s code (k + time.next)) _ _ (rest-later-at code time.next)
+      (λ rest. refl))))
 
   part-later : (from to : ℕ) → part s (k + from) (k + to) ≡ part (drop k s) from to
   part-later from to =
@@ -150,10 +169,10 @@ module _ (s : List ℕ) (k : ℕ) (fits : k ≤ length s) where
   kind-later-at now next (kinds.Drop slot) = refl
   kind-later-at now next kinds.Gone = refl
 
-  found-later : (e : Parsed) → found_in s (event-later k e) ≡ later k (found_in (drop k s) e)
-  found-later (parsed.Event e) = rw (kind-later-at e.now e.next e.kind)
-  found-later parsed.Short = refl
-  found-later parsed.Bad = refl
+  found-later : (r : Reading Event) → found_in s (moved (event-later k) r) ≡ later k (found_in (drop k s) r)
+  found-later (Ok e) = rw (kind-later-at e.now e.next e.kind)
+  found-later (Err Short) = refl
+  found-later (Err Bad) = refl
 
   -- the call k places further on is the call of what is left without the first k bytes
   pub call-later : (at : ℕ) → call_at s (k + at) ≡ later k (call_at (drop k s) at)

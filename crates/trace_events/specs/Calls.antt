@@ -1,14 +1,13 @@
 -- The call that an event stands for, and where an event lies. Sentences are document 01's, "replay".
-use Rattle.std.specs.Prelude.{◌≡◌, List, ℕ, ◌+◌, ◌-◌, ◌≤◌, ◌<◌, length, take, drop}
+use Rattle.std.specs.Prelude.{◌≡◌, List, ℕ, ◌+◌, ◌-◌, ◌≤◌, ◌<◌, length, take, drop, Ok, Err}
 use Rattle.rules.specs.Step.{Call}
 use Rattle.rules.specs.Step as rules
 use Rattle.trace_events.specs.declared.Preamble.{Preamble}
-use Rattle.trace_events.specs.declared.Preamble.TheVariants as preamble
 use Rattle.trace_events.specs.declared.Kind.{Kind}
 use Rattle.trace_events.specs.declared.Kind.TheVariants.{Tick, Frame, Open, Read, Write, Close, Drop, Gone}
 use Rattle.trace_events.specs.declared.Event.{Event}
-use Rattle.trace_events.specs.declared.Parsed.{Parsed}
-use Rattle.trace_events.specs.declared.Parsed.TheVariants as parsed
+use Rattle.trace_events.specs.declared.Unreadable.TheVariants.{Short, Bad}
+use Rattle.trace_events.specs.Numbers.{Reading}
 use Rattle.trace_events.specs.Format.{event_at}
 
 -- a call and the place after its event; or "cut short" so far; or "unreadable"
@@ -36,10 +35,10 @@ call_of s now next Gone = rules.gone now
 abbrev pub call_on : List ℕ → Event → Call
 call_on s e = call_of s e.now e.next e.kind
 
-abbrev pub found_in : List ℕ → Parsed → Found
-found_in s (parsed.Event e) = call (call_on s e) e.next
-found_in s parsed.Short = short
-found_in s parsed.Bad = bad
+abbrev pub found_in : List ℕ → Reading Event → Found
+found_in s (Ok e) = call (call_on s e) e.next
+found_in s (Err Short) = short
+found_in s (Err Bad) = bad
 
 -- the call at a place of a trace
 unfoldable pub call_at : List ℕ → ℕ → Found
@@ -49,8 +48,13 @@ call_at s at = found_in s (event_at s at)
 abbrev pub longest : ℕ
 longest = 16424
 
--- An event read from `low` on takes a byte or more, none from `top` on, and none that is not there; one that is cut short
--- wants a byte below `top` that is not there.
+-- what is read is as P says; what is cut short wants a byte below `top` that is not there
+abbrev pub ReadIn : {A : Type 0} → List ℕ → ℕ → (A → Type 0) → Reading A → Type 0
+ReadIn s top P (Ok x) = P x
+ReadIn s top P (Err Short) = length s < top
+ReadIn s top P (Err Bad) = Unit
+
+-- what is read from `low` on takes a byte or more, none from `top` on, and none that is not there
 abbrev pub Spans : List ℕ → ℕ → ℕ → ℕ → Type 0
 Spans s low top next = (low < next) × (next ≤ length s) × (next ≤ top)
 
@@ -65,16 +69,12 @@ Lies next (Close slot) = Unit
 Lies next (Drop slot) = Unit
 Lies next Gone = Unit
 
-abbrev pub Within : List ℕ → ℕ → ℕ → Parsed → Type 0
-Within s low top (parsed.Event e) = Spans s low top e.next × Lies e.next e.kind
-Within s low top parsed.Short = length s < top
-Within s low top parsed.Bad = Unit
+abbrev pub Within : List ℕ → ℕ → ℕ → Reading Event → Type 0
+Within s low top = ReadIn s top (λ (e : Event). Spans s low top e.next × Lies e.next e.kind)
 
 -- settings, which start at the input's first byte, lie within it: ten numbers of ten groups at most
-abbrev pub PreambleIn : List ℕ → Preamble → Type 0
-PreambleIn s (preamble.Settings t next) = Spans s 0 100 next
-PreambleIn s preamble.Short = length s < 100
-PreambleIn s preamble.Bad = Unit
+abbrev pub PreambleIn : List ℕ → Reading Preamble → Type 0
+PreambleIn s = ReadIn s 100 (λ (p : Preamble). Spans s 0 100 p.next)
 
 -- ---- the same trace from another place on
 

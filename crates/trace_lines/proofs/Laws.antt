@@ -1,25 +1,16 @@
 -- What a caller goes by: with room for the longest line every line is written, and a number's digits are worth the number, the
 -- first of them not 0. Assumes nothing.
-use mathlib.Core.Path.{◌≡◌, refl, ◌∙◌}
-use mathlib.Core.Bool.{Bool, true, false, cond}
-use mathlib.Core.List.{List, [], ◌∷◌, ◌++◌}
-use Prim.Native.Nat.{ℕ, zero, suc, ◌+◌, ◌-◌, ◌*◌, ◌/◌, ◌%◌, ◌≤◌, ◌<◌}
-use native.Mathlib.Omega.{arith}
-use lib.ListN.{length, get_or}
-use lib.Dec.{ltb}
-use borrow.Author.Tests.{le-leb, ltb-false}
+use Rattle.std.proofs.Common.{Option, Some, ◌≡◌, refl, ◌∙◌, Bool, true, false, cond, List, [], ◌∷◌, ◌++◌, ℕ, zero, suc, ◌+◌, ◌-◌, ◌*◌, ◌/◌, ◌%◌, ◌≤◌, ◌<◌, arith, length, get_or, ltb, le-leb, ltb-false}
 use Rattle.trace_lines.specs.Line.{digits, decimal, worth}
 use Rattle.trace_lines.specs.Writing.{Writes, placed, line_room, longest_line}
-use Rattle.trace_lines.specs.declared.Put.{Put}
-use Rattle.trace_lines.specs.declared.Put.TheVariants.{At}
 
-module _ {room : ℕ} {o text o' : List ℕ} {at : ℕ} {r : Put} (w : Writes room o at text o' r) where
-  pub written : at + room ≤ length o → (r ≡ At (at + length text)) × (o' ≡ placed o at text)
+module _ {room : ℕ} {o text o' : List ℕ} {at : ℕ} {r : Option ℕ} (w : Writes room o at text o' r) where
+  pub written : at + room ≤ length o → (r ≡ Some (at + length text)) × (o' ≡ placed o at text)
   written h = (rw (le-leb _ _ h) at w.answer, rw (le-leb _ _ h) at w.left)
 
 -- a header of at most twelve bytes and at most 16,384 bytes read
-pub line_written : (header bytes : ℕ) {o text o' : List ℕ} {at : ℕ} {r : Put} → header ≤ 12 → bytes ≤ 16384 → at + longest_line ≤ length o
-    → Writes (line_room header bytes) o at text o' r → (r ≡ At (at + length text)) × (o' ≡ placed o at text)
+pub line_written : (header bytes : ℕ) {o text o' : List ℕ} {at : ℕ} {r : Option ℕ} → header ≤ 12 → bytes ≤ 16384 → at + longest_line ≤ length o
+    → Writes (line_room header bytes) o at text o' r → (r ≡ Some (at + length text)) × (o' ≡ placed o at text)
 line_written header bytes h b l w = written w (omega arith)
 
 -- ---- digits

@@ -1,14 +1,7 @@
 -- Texts stored one after another are stored as one. Assumes nothing.
-use mathlib.Core.Path.{◌≡◌, refl, sym, ap, ◌∙◌}
-use mathlib.Core.List.{List, [], ◌∷◌, ◌++◌, append_assoc}
-use Prim.Native.Nat.{ℕ, suc, ◌+◌, ◌-◌, ◌≤◌, ◌<◌}
-use native.Mathlib.Nat.{add-zero, add_assoc}
-use native.Mathlib.Numerals.{add-one}
-use native.Mathlib.Omega.{arith}
-use lib.ListN.{length, take, drop, set, length-append, length-set}
-use lib.Seq.{drop-drop, sets, length-sets, sets-eq}
-use borrow.Author.Tests.{le-leb, lt-leb}
-use Rattle.trace_lines.specs.declared.Put.TheVariants.{At, Full}
+use Rattle.std.proofs.Common.{Some, None, ◌≡◌, refl, sym, ap, ◌∙◌, List, [], ◌∷◌, ◌++◌, append_assoc, ℕ, suc, ◌+◌, ◌-◌, ◌≤◌, ◌<◌, add-zero, add_assoc, add-one, arith, length, take, drop, set, length-append, length-set, drop-drop, le-leb}
+use lib.Seq.{sets, length-sets, sets-eq}
+use borrow.Author.Tests.{lt-leb}
 use Rattle.trace_lines.specs.Writing.{Stores, Writes}
 
 pub sets_then : (o : List ℕ) (at : ℕ) (xs ys : List ℕ) → sets (sets o at xs) (at + length xs) ys ≡ sets o at (xs ++ ys)
@@ -50,10 +43,10 @@ module _ (o : List ℕ) (at : ℕ) where
 
 -- what is stored with room is written
 pub writes : (room : ℕ) {o text o' : List ℕ} {at r : ℕ} → at + room ≤ length o → r ≤ at + room → Stores o at text o' r
-    → Writes room o at text o' (At r)
+    → Writes room o at text o' (Some r)
 writes room {o} {text} {o'} {at} {r} f l h =
     let e = le-leb _ _ f in
     record { answer = rw (e, h.next); left = rw e (h.left ∙ sets-eq text o at (omega (arith, h.next)) ∙ append_assoc (take at o) text (drop (at + length text) o)) }
 
-pub writes-none : (room : ℕ) {o : List ℕ} {at : ℕ} (text : List ℕ) → length o < at + room → Writes room o at text o Full
+pub writes-none : (room : ℕ) {o : List ℕ} {at : ℕ} (text : List ℕ) → length o < at + room → Writes room o at text o None
 writes-none room text f = let e = lt-leb _ _ f in record { answer = rw e; left = rw e }

@@ -1,12 +1,9 @@
 -- The line of an outcome and the last lines. Sentences are document 01's, "replay".
-use Rattle.std.specs.Prelude.{Bool, cond, List, [], ◌∷◌, ◌++◌, ℕ, zero, suc, ◌+◌, ◌-◌, ◌*◌, ◌/◌, ◌%◌, ltb}
+use Rattle.std.specs.Prelude.{Bool, cond, List, [], ◌∷◌, ◌++◌, ℕ, zero, suc, ◌+◌, ◌-◌, ◌*◌, ◌/◌, ◌%◌, ltb, Option, Some, None}
 use Rattle.rules.specs.Replies.{Outcome, number}
-use Rattle.rules.specs.declared.Which.{Which}
-use Rattle.rules.specs.declared.Which.TheVariants as which
-use Rattle.rules.specs.declared.Value.{Value}
-use Rattle.rules.specs.declared.Value.TheVariants as value
 use Rattle.rules.specs.declared.Woke.{Woke}
 use Rattle.trace_lines.specs.declared.Shown.{Shown}
+use Rattle.rules.specs.declared.Slot.{Slot}
 
 -- decimal digits without leading zeros, by at most k steps of ten
 unfoldable pub digits : ℕ → ℕ → List ℕ
@@ -36,14 +33,14 @@ or_dash [] = 45 ∷ []
 or_dash (x ∷ xs) = x ∷ xs
 
 -- "slot (the call's; for a frame or open, the new or woken stream's)": its number, written as a value is
-abbrev pub slot_value : Which → Value
-slot_value (which.At s) = value.Of s.0
-slot_value which.None = value.None
+abbrev pub slot_value : Option Slot → Option ℕ
+slot_value (Some s) = Some s.0
+slot_value None = None
 
 -- "value (`-` at reply 1; else new id, count of bytes .., id of a Ping sent .., or GoAway code)"
-unfoldable pub value_text : Value → List ℕ
-value_text (value.Of n) = decimal n
-value_text value.None = 45 ∷ []
+unfoldable pub value_text : Option ℕ → List ℕ
+value_text (Some n) = decimal n
+value_text None = 45 ∷ []
 
 -- a letter where its mark is on
 abbrev pub mark : Bool → ℕ → List ℕ

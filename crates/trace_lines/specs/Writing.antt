@@ -1,8 +1,6 @@
 -- Writing into lent room, from a place on.
-use Rattle.std.specs.Prelude.{◌≡◌, cond, List, ◌++◌, ℕ, ◌+◌, ◌*◌, ◌≤◌, length, take, drop, leb}
+use Rattle.std.specs.Prelude.{◌≡◌, cond, List, ◌++◌, ℕ, ◌+◌, ◌*◌, ◌≤◌, length, take, drop, leb, Option, Some, None}
 use Rattle.std.proofs.lemmas.List.Edits.{sets}
-use Rattle.trace_lines.specs.declared.Put.{Put}
-use Rattle.trace_lines.specs.declared.Put.TheVariants.{At, Full}
 
 -- `text` is stored from `at` on, and nothing else
 pub record Stores (o : List ℕ) (at : ℕ) (text o' : List ℕ) (r : ℕ) : Type 0 where
@@ -18,8 +16,8 @@ abbrev pub placed : List ℕ → ℕ → List ℕ → List ℕ
 placed o at text = take at o ++ (text ++ drop (at + length text) o)
 
 -- Where `room` bytes are left from `at` on, `text` is written and its end is told; else nothing changes, and that is told.
-pub record Writes (room : ℕ) (o : List ℕ) (at : ℕ) (text o' : List ℕ) (r : Put) : Type 0 where
-  pub answer : r ≡ cond (leb (at + room) (length o)) (At (at + length text)) Full
+pub record Writes (room : ℕ) (o : List ℕ) (at : ℕ) (text o' : List ℕ) (r : Option ℕ) : Type 0 where
+  pub answer : r ≡ cond (leb (at + room) (length o)) (Some (at + length text)) None
   pub left : o' ≡ cond (leb (at + room) (length o)) (placed o at text) o
 
 -- the room that a line asks for, by its bytes of header and of data: no line with as many is longer

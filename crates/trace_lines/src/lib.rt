@@ -1,4 +1,5 @@
-// The line writer: an outcome's line, and the last lines, into lent room.
+// The line writer: an outcome's line, and the last lines, into lent room. Room and place are two parameters: a writer over a `&mut [u8]` would
+// owe the slice's name and length in every contract, and is no plainer.
 #![tactic(auto)]
 
 ghost use Rattle.std.specs.Prelude.{◌≡◌, [], ◌∷◌, ◌+◌, ◌-◌, ◌*◌, ◌≤◌, ◌<◌, length};
@@ -6,23 +7,16 @@ ghost use Rattle.rules.specs.Replies.{number};
 ghost use Rattle.trace_lines.specs.Line.{decimal, hex_digit, hex, or_dash, slot_value, value_text, mark, marks, wakes_text, field, line_of, last_of, end_line, bad_line, config_line};
 ghost use Rattle.trace_lines.specs.Writing.{Stores, Room, Writes, line_room, last_room};
 
-use rules::{Reply, Value, Which, Woke};
+use rules::{Reply, Slot, Woke};
 
 // What a line shows beside the header and the bytes read.
-#[derive(Clone, Copy)]
+#[derive(Clone, Copy, Debug, PartialEq, Eq)]
 pub struct Shown {
     pub number: u64,
     pub reply: Reply,
-    pub slot: Which,
-    pub value: Value,
+    pub slot: Option<Slot>,
+    pub value: Option<u32>,
     pub wakes: Woke,
-}
-
-// The place after what was written; or there was too little room, and nothing changed.
-#[derive(Clone, Copy)]
-pub enum Put {
-    At(usize),
-    Full,
 }
 
 // With this much room from its place on, every line of a trace is written.
@@ -36,12 +30,6 @@ const SPACE: u8 = b' ';
 const NEWLINE: u8 = b'\n';
 
 const DASH: u8 = b'-';
-
-fn wide(n: u32) -> u64
-    ensures { result ≡ n }
-{
-    n as u64
-}
 
 fn digit(n: u64) -> u8
     requires { n < 10 }
@@ -94,13 +82,8 @@ fn put_hex(out: &mut [u8], at: usize, bytes: &[u8]) -> usize
     ensures { Stores out.old at (hex bytes.now) out.new result }
 {
     let mut p = at;
-    let mut i = 0;
-    while i < bytes.len() {
-        let b = bytes[i];
-        out[p] = hex_digit(b / 16);
-        out[p + 1] = hex_digit(b % 16);
-        p = p + 2;
-        i = i + 1;
+    for b in bytes {
+        p = put_two(out, p, hex_digit(b / 16), hex_digit(b % 16));
     }
     p
 }
@@ -123,23 +106,21 @@ fn put_number(out: &mut [u8], at: usize, n: u64, end: u8) -> usize
 }
 
 // The number of a slot.
-fn slot_value(slot: Which) -> Value
+fn slot_value(slot: Option<Slot>) -> Option<u32>
     ensures { result ≡ slot_value slot }
 {
-    match slot {
-        Which::At(s) => Value::Of(s.0),
-        Which::None => Value::None,
-    }
+    slot.map(|s| s.0)
 }
 
-fn put_value(out: &mut [u8], at: usize, value: Value) -> usize
+#[tactic(auto, unfolding(crate::specs::Line::value_text))]
+fn put_value(out: &mut [u8], at: usize, value: Option<u32>) -> usize
     requires { at + 21 ≤ length out.old }
     ensures stores { Stores out.old at (field (value_text value) 32) out.new result }
     ensures upper_bound { result ≤ at + 21 }
 {
     match value {
-        Value::Of(n) => put_number(out, at, wide(n), SPACE),
-        Value::None => put_dash(out, at, SPACE),
+        Some(n) => put_number(out, at, u64::from(n), SPACE),
+        None => put_dash(out, at, SPACE),
     }
 }
 
@@ -149,7 +130,7 @@ fn put_bytes(out: &mut [u8], at: usize, bytes: &[u8], end: u8) -> usize
     ensures stores { Stores out.old at (field (or_dash (hex bytes.now)) end) out.new result }
     ensures upper_bound { result ≤ at + 2 * length bytes.now + 2 }
 {
-    if bytes.len() == 0 {
+    if bytes.is_empty() {
         return put_dash(out, at, end);
     }
     let p = put_hex(out, at, bytes);
@@ -200,17 +181,14 @@ fn put_fields(out: &mut [u8], at: usize, shown: Shown, header: &[u8], bytes: &[u
     ensures stores { Stores out.old at (line_of shown header.now bytes.now) out.new result }
     ensures upper_bound { result ≤ at + line_room (length header.now) (length bytes.now) }
 {
-    let reply = shown.reply;
-    let which = shown.slot;
-    let value = shown.value;
-    let wakes = shown.wakes;
-    let slot = slot_value(which);
+    let reply = u64::from(u32::from(shown.reply));
+    let slot = slot_value(shown.slot);
     let number = put_number(out, at, shown.number, SPACE);
-    let replied = put_number(out, number, wide(reply.number()), SPACE);
+    let replied = put_number(out, number, reply, SPACE);
     let slotted = put_value(out, replied, slot);
-    let valued = put_value(out, slotted, value);
+    let valued = put_value(out, slotted, shown.value);
     let headed = put_bytes(out, valued, header, SPACE);
-    let woken = put_wakes(out, headed, wakes);
+    let woken = put_wakes(out, headed, shown.wakes);
     put_bytes(out, woken, bytes, NEWLINE)
 }
 
@@ -218,61 +196,55 @@ fn put_fields(out: &mut [u8], at: usize, shown: Shown, header: &[u8], bytes: &[u
 pub fn room_left(size: usize, at: usize) -> usize
     ensures { result ≡ size - at }
 {
-    if at < size { size - at } else { 0 }
+    size.saturating_sub(at)
 }
 
-// The line of an event. It asks for the room of the longest line with as many bytes.
-pub fn line(out: &mut [u8], at: usize, shown: Shown, header: &[u8], bytes: &[u8]) -> Put
+// The line of an event, and the place after it. It asks for the room of the longest line with as many bytes, and changes nothing where there
+// is less.
+pub fn line(out: &mut [u8], at: usize, shown: Shown, header: &[u8], bytes: &[u8]) -> Option<usize>
     ensures { Writes (line_room (length header.now) (length bytes.now)) out.old at (line_of shown header.now bytes.now) out.new result }
 {
-    let left = room_left(out.len(), at);
-    if left < ROOM {
-        return Put::Full;
+    let pairs = room_left(out.len(), at).checked_sub(ROOM)? / 2;
+    if pairs.checked_sub(header.len())? < bytes.len() {
+        return None;
     }
-    let pairs = (left - ROOM) / 2;
-    if pairs < header.len() {
-        return Put::Full;
-    }
-    if pairs - header.len() < bytes.len() {
-        return Put::Full;
-    }
-    Put::At(put_fields(out, at, shown, header, bytes))
+    Some(put_fields(out, at, shown, header, bytes))
 }
 
 // A last line: a word and two numbers.
-fn put_last(out: &mut [u8], at: usize, word: &[u8], a: u64, b: u64) -> Put
+fn put_last(out: &mut [u8], at: usize, word: &[u8], a: u64, b: u64) -> Option<usize>
     requires { length word.now ≤ 8 }
     ensures { Writes last_room out.old at (last_of word.now a b) out.new result }
 {
     if room_left(out.len(), at) < ROOM {
-        return Put::Full;
+        return None;
     }
     let said = put_text(out, at, word);
     let first = put_number(out, said, a, SPACE);
-    Put::At(put_number(out, first, b, NEWLINE))
+    Some(put_number(out, first, b, NEWLINE))
 }
 
 // The last line: the events applied and the growth figure.
-pub fn end_line(out: &mut [u8], at: usize, events: u64, growth: u64) -> Put
+pub fn end_line(out: &mut [u8], at: usize, events: u64, growth: u64) -> Option<usize>
     ensures { Writes last_room out.old at (end_line events growth) out.new result }
 {
     put_last(out, at, b"end ", events, growth)
 }
 
 // The last line of an unreadable trace: the events applied, and the byte of the input at which the failing one starts.
-pub fn bad_line(out: &mut [u8], at: usize, events: u64, byte: u64) -> Put
+pub fn bad_line(out: &mut [u8], at: usize, events: u64, byte: u64) -> Option<usize>
     ensures { Writes last_room out.old at (bad_line events byte) out.new result }
 {
     put_last(out, at, b"bad ", events, byte)
 }
 
 // The only line where the settings are refused: the number of the reply.
-pub fn config_line(out: &mut [u8], at: usize, number: u32) -> Put
+pub fn config_line(out: &mut [u8], at: usize, number: u32) -> Option<usize>
     ensures { Writes last_room out.old at (config_line number) out.new result }
 {
     if room_left(out.len(), at) < ROOM {
-        return Put::Full;
+        return None;
     }
     let said = put_text(out, at, b"config ");
-    Put::At(put_number(out, said, wide(number), NEWLINE))
+    Some(put_number(out, said, u64::from(number), NEWLINE))
 }

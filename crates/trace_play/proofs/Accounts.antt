@@ -11,45 +11,40 @@ use lib.Seq.{sets-eq, length-sets, length-take-le, take-append_seam, take-take}
 use borrow.Author.Tests.{le-leb}
 use Rattle.chunks.proofs.Parts.{drop-take}
 use Rattle.rules.proofs.Lists.{never}
+use Rattle.std.specs.Prelude.{Option, Some, None, Result, Ok, Err, ⊤, is_ok}
+use Rattle.std.specs.declared.io.Error.{Error}
 use Rattle.rules.specs.State.{Conn}
 use Rattle.rules.specs.Settings.{checked_within}
 use Rattle.rules.specs.declared.Settings.{Settings}
-use Rattle.rules.specs.declared.Checked.{Checked}
-use Rattle.rules.specs.declared.Checked.TheVariants as settings
 use Rattle.connection.specs.Abstract.{abs_of, Valid}
 use Rattle.trace.specs.Runs.{Traced, only}
+use Rattle.std.specs.Prelude.{Result, Ok, Err}
 use Rattle.trace.specs.Output.{most, judged_as, begun_as, last_line, allowance, output, remaining, IsLast}
 use Rattle.trace.specs.Turns.{Runs, RanAs, runs_from}
 use Rattle.trace.specs.declared.Stop.{Stop}
 use Rattle.trace.specs.declared.Stop.TheVariants as stop
 use Rattle.trace.specs.declared.Report.{Report}
-use Rattle.trace.specs.declared.ends.Begun.TheVariants as begun
+use Rattle.trace.specs.declared.ends.Begun.{Begun}
 use Rattle.trace_events.specs.Format.{settings_at}
 use Rattle.trace_events.specs.declared.Preamble.{Preamble}
-use Rattle.trace_events.specs.declared.Preamble.TheVariants as preamble
+use Rattle.trace_events.specs.Numbers.{Reading}
+use Rattle.trace_events.specs.declared.Unreadable.TheVariants.{Short}
 use Rattle.rules.proofs.Judging.{permitted_too}
 use Rattle.trace_events.proofs.More.{Settles}
 use Rattle.trace_events.proofs.Settings.{settings-more}
 use Rattle.trace.proofs.Whole.{settings_there}
 use Rattle.trace.proofs.Remaining.{run-remains, last_remains, none_reached, events_reached}
-use Rattle.filter.specs.Parts.{kept, Inside, after_read, after_write, Flushed}
+use Rattle.filter.specs.Parts.{kept, Inside, after_read, after_write, done, work, Flushed}
 use Rattle.filter.specs.Account.{Account, nothing, reads, writes, then, Prefix}
 use Rattle.filter.specs.declared.Standing.{Standing}
-use Rattle.filter.specs.declared.Work.{Work}
-use Rattle.filter.specs.declared.Work.TheVariants.{Whole, Unread, Unwritten, Unlent}
-use Rattle.filter.specs.declared.Got.{Got}
-use Rattle.filter.specs.declared.Got.TheVariants.{More, End, Failed}
+use Rattle.filter.specs.declared.Fault.{Fault}
+use Rattle.filter.specs.declared.Fault.TheVariants.{Unwritten}
 use Rattle.trace_play.specs.Places.{next_task, place_of, after_run, moved, passed, fed_on}
 use Rattle.trace_play.specs.Plays.{Wrote, Took, putting, over, Closed, broken, last, GoesOn, Lent, lent, Played, Plays, none, more, Performed, unread, unreached, played, is_ended, Lasts}
 use Rattle.trace_play.specs.declared.State.{State}
 use Rattle.trace_play.proofs.Nearing.{kept-length}
-
--- whether every read and write did its work
-abbrev worked : Work → Bool
-worked Whole = true
-worked Unread = false
-worked Unwritten = false
-worked Unlent = false
+use Rattle.rules.specs.declared.Config.{Config}
+use Rattle.rules.specs.declared.Setting.{Setting}
 
 -- the state that is reached
 abbrev conn : State → Lent → Conn
@@ -72,11 +67,11 @@ pub record Stands (a : Account) (s : State) (m : Lent) : Type 0 where
 -- work, whatever comes after where the input has not ended: then the room holds the last line.
 pub record Told (a : Account) (s : State) (room : List ℕ) : Type 0 where
   pub start : Prefix a.put (output a.brought)
-  pub all : s.standing.done ≡ true → s.standing.work ≡ Whole → (next : List ℕ) → (s.standing.ended ≡ true → next ≡ []) → output (a.brought ++ next) ≡ a.put
-  pub line : s.standing.done ≡ true → s.standing.work ≡ Whole → Lasts (output a.brought) room
+  pub all : done s.standing ≡ true → work s.standing ≡ Ok tt → (next : List ℕ) → (s.standing.ended ≡ true → next ≡ []) → output (a.brought ++ next) ≡ a.put
+  pub line : done s.standing ≡ true → work s.standing ≡ Ok tt → Lasts (output a.brought) room
 
 pub record After (a : Account) (s : State) (m : Lent) : Type 0 where
-  pub stands : s.standing.done ≡ false → Stands a s m
+  pub stands : done s.standing ≡ false → Stands a s m
   pub told : Told a s m.room
 
 stands_there : (end : ℕ) (room line : List ℕ) → take end room ≡ line → Prefix line room
@@ -142,16 +137,16 @@ module _ (a : Account) (s : State) (m : Lent) (z : Stands a s m) (report : Repor
 
 -- ---- what follows it
 
-module _ (a : Account) (s : State) (m : Lent) (z : Stands a s m) (live : s.standing.done ≡ false) where
+module _ (a : Account) (s : State) (m : Lent) (z : Stands a s m) (live : done s.standing ≡ false) where
   -- lines are written
   module _ (b : Account) (s' : State) (w : Wrote s m.room b s') where
-    wrote-stands : (written : Bool) → Stands (then a (writes (take s.standing.put m.room))) (moved s (after_write s.standing written)) m
-    wrote-stands true = record { valid = z.valid; at = z.at; have = z.have; put = omega arith; owes = λ next. rw (append-nil, append_assoc) (z.owes next) }
-    wrote-stands false = record { valid = z.valid; at = z.at; have = z.have; put = omega arith; owes = λ next. rw (append-nil, append_assoc) (z.owes next) }
+    wrote-stands : (written : Result ⊤ Error) → Stands (then a (writes (take s.standing.put m.room))) (moved s (after_write s.standing written)) m
+    wrote-stands (Ok u) = record { valid = z.valid; at = z.at; have = z.have; put = omega arith; owes = λ next. rw (append-nil, append_assoc) (z.owes next) }
+    wrote-stands (Err e) = record { valid = z.valid; at = z.at; have = z.have; put = omega arith; owes = λ next. rw (append-nil, append_assoc) (z.owes next) }
 
-    wrote-told : (written : Bool) → After (then a (writes (take s.standing.put m.room))) (moved s (after_write s.standing written)) m
-    wrote-told true = record { stands = λ d. wrote-stands true; told = record { start = starts _ _ _ (wrote-stands true); all = λ d w next n. never (sym d ∙ live); line = λ d w. never (sym d ∙ live) } }
-    wrote-told false = record { stands = λ d. wrote-stands false; told = record { start = starts _ _ _ (wrote-stands false); all = λ d w next n. never (sym (ap worked w)); line = λ d w. never (sym (ap worked w)) } }
+    wrote-told : (written : Result ⊤ Error) → After (then a (writes (take s.standing.put m.room))) (moved s (after_write s.standing written)) m
+    wrote-told (Ok u) = record { stands = λ d. wrote-stands (Ok u); told = record { start = starts _ _ _ (wrote-stands (Ok u)); all = λ d w next n. never (sym d ∙ live); line = λ d w. never (sym d ∙ live) } }
+    wrote-told (Err e) = record { stands = λ d. wrote-stands (Err e); told = record { start = starts _ _ _ (wrote-stands (Err e)); all = λ d w next n. never (sym (ap is_ok w)); line = λ d w. never (sym (ap is_ok w)) } }
 
     wrote_after : After (then a b) s' m
     wrote_after =
@@ -172,16 +167,16 @@ module _ (a : Account) (s : State) (m : Lent) (z : Stands a s m) (live : s.stand
     is-rest : front ≡ rest s m
     is-rest = rw (le-leb s.standing.have (length m.input) z.have) (sym (drop-take s.standing.at s.standing.have m.input))
 
-    places : (got : Got) → Inside (length front) (length m.input) got → x ≡ after_read s.standing (length front) got
+    places : (got : Result (Option ℕ) Error) → Inside (length front) (length m.input) got → x ≡ after_read s.standing (length front) got
         → (x.at ≡ 0) × (x.put ≡ s.standing.put) × (length front ≤ x.have) × (x.have ≤ length m.input)
-    places (More n) i q = rw q (refl, refl, omega (arith, i.0), i.1)
-    places End i q = rw q (refl, refl, omega arith, omega (arith, kept-length m.input s.standing.at s.standing.have z.at z.have, z.have))
-    places Failed i q = rw q (refl, refl, omega arith, omega (arith, kept-length m.input s.standing.at s.standing.have z.at z.have, z.have))
+    places (Ok (Some n)) i q = rw q (refl, refl, omega (arith, i.0), i.1)
+    places (Ok None) i q = rw q (refl, refl, omega arith, omega (arith, kept-length m.input s.standing.at s.standing.have z.at z.have, z.have))
+    places (Err e) i q = rw q (refl, refl, omega arith, omega (arith, kept-length m.input s.standing.at s.standing.have z.at z.have, z.have))
 
-    ended : (got : Got) → x ≡ after_read s.standing (length front) got → x.done ≡ true → x.work ≡ Whole → ⊥
-    ended (More n) q d w = never (sym d ∙ ap (λ (y : Standing). y.done) q ∙ live)
-    ended End q d w = never (sym d ∙ ap (λ (y : Standing). y.done) q ∙ live)
-    ended Failed q d w = never (sym (ap worked w) ∙ ap (λ (y : Standing). worked y.work) q)
+    ended : (got : Result (Option ℕ) Error) → x ≡ after_read s.standing (length front) got → done x ≡ true → work x ≡ Ok tt → ⊥
+    ended (Ok (Some n)) q d w = never (sym d ∙ ap (λ (y : Standing). done y) q ∙ live)
+    ended (Ok None) q d w = never (sym d ∙ ap (λ (y : Standing). done y) q ∙ live)
+    ended (Err e) q d w = never (sym (ap is_ok w) ∙ ap (λ (y : Standing). is_ok (work y)) q)
 
     took-stands : Stands (then a (reads new)) (fed_on s x) (lent m.table m.links m.pool input' m.room)
     took-stands =
@@ -247,19 +242,19 @@ module _ (a : Account) (s : State) (m : Lent) (z : Stands a s m) (b : Account) (
         };
       })
 
-  broken-after : (c : Account) (x : Standing) → Ends → c ≡ writes lines → Flushed s₁.standing k.written c x → x.done ≡ true → After (then a c) (moved s₁ x) m'
+  broken-after : (c : Account) (x : Standing) → Ends → c ≡ writes lines → Flushed s₁.standing k.written c x → done x ≡ true → After (then a c) (moved s₁ x) m'
   broken-after c x e p f d =
       rw p (record {
         stands = λ g. never (sym d ∙ g);
         told = record { start = (line, rw (append-nil, append_assoc) (rw append-nil at (e [] (λ g. refl)))); all = λ g w next n. never (broke w); line = λ g w. never (broke w) };
       })
     where
-      unwritten : (b : Bool) → x ≡ after_write s₁.standing b → x.work ≡ Unwritten
-      unwritten true q = never (sym d ∙ ap (λ (y : Standing). y.done) q ∙ k.live)
-      unwritten false q = ap (λ (y : Standing). y.work) q
+      unwritten : (b : Result ⊤ Error) → x ≡ after_write s₁.standing b → work x ≡ Err Unwritten
+      unwritten (Ok u) q = never (sym d ∙ ap (λ (y : Standing). done y) q ∙ k.live)
+      unwritten (Err e) q = ap (λ (y : Standing). work y) q
 
-      broke : x.work ≡ Whole → true ≡ false
-      broke w = sym (ap worked w) ∙ ap worked (unwritten f.written f.is)
+      broke : work x ≡ Ok tt → true ≡ false
+      broke w = sym (ap is_ok w) ∙ ap is_ok (unwritten f.written f.is)
 
   closed_after : (why : Stop) → k.report.stop ≡ why → ((next : List ℕ) → (s.standing.ended ≡ true → next ≡ []) → IsLast next why) → {b : Account} {s' : State} → Closed why s₁ k.written b s' m'.room → After (then a b) s' m'
   closed_after why e l c = go c refl
@@ -267,9 +262,9 @@ module _ (a : Account) (s : State) (m : Lent) (z : Stands a s m) (b : Account) (
       all : Ends
       all next n = ran_ends a s m z k.report m'.table m'.links m'.pool k.written k.runs next (rw e (l next n))
 
-      same : (x y : Standing) (w : Bool) → y ≡ after_write x w → y.ended ≡ x.ended
-      same x y true q = ap (λ (v : Standing). v.ended) q
-      same x y false q = ap (λ (v : Standing). v.ended) q
+      same : (x y : Standing) (w : Result ⊤ Error) → y ≡ after_write x w → y.ended ≡ x.ended
+      same x y (Ok u) q = ap (λ (v : Standing). v.ended) q
+      same x y (Err f) q = ap (λ (v : Standing). v.ended) q
 
       go : {b : Account} {s' : State} {room : List ℕ} → Closed why s₁ k.written b s' room → m'.room ≡ room → After (then a b) s' m'
       go (broken {a} {x} f d) i = broken-after a x all f.puts f d
@@ -306,38 +301,37 @@ plays_after a₀ s m z none = subst (λ (c : Account). After c s m) (sym (then-n
 plays_after a₀ s m z (more {a} {b} {s₁} {s₂} {m₁} {m₂} p q) = one_more a₀ a b s₁ s₂ m₁ m₂ (plays_after a₀ s m z p) q
 
 -- where no event is reached the run is over
-begun_over : (x : Preamble) (why : Stop) → begun_as x ≡ begun.Stop why → IsLast [] why
+begun_over : (x : Reading Preamble) (why : Stop) → begun_as x ≡ Err why → IsLast [] why
 begun_over x why e = go x e
   where
-    by : (a : Stop) → IsLast [] a → begun.Stop a ≡ begun.Stop why → IsLast [] why
+    by : (a : Stop) → IsLast [] a → ◌≡◌ {A = Result Begun Stop} (Err a) (Err why) → IsLast [] why
     by a h q = let z : a ≡ why = cc in subst (IsLast []) z h
 
-    judged : (t : Settings) (next : ℕ) (y : Checked) → judged_as y t next ≡ begun.Stop why → IsLast [] why
-    judged t next (settings.Wrong w) f = by (stop.Wrong w) tt f
-    judged t next (settings.Fine c) f = absurd (let z : ◌≡◌ {A = ℕ} 0 1 = cc in omega arith)
+    judged : (t : Settings) (next : ℕ) (y : Result Config Setting) → judged_as y t next ≡ Err why → IsLast [] why
+    judged t next (Err w) f = by (stop.Wrong w) tt f
+    judged t next (Ok c) f = absurd (let z : ◌≡◌ {A = ℕ} 0 1 = cc in omega arith)
 
-    go : (y : Preamble) → begun_as y ≡ begun.Stop why → IsLast [] why
-    go (preamble.Settings t next) f = judged t next (checked_within most t) f
-    go preamble.Short f = by stop.Bad tt f
-    go preamble.Bad f = by stop.Bad tt f
+    go : (y : Reading Preamble) → begun_as y ≡ Err why → IsLast [] why
+    go (Ok p) f = judged p.settings p.next (checked_within most p.settings) f
+    go (Err x) f = by stop.Bad tt f
 
 -- no event is reached, whatever comes after where the input has not ended
-none_after : (s next : List ℕ) (ended : Bool) (why : Stop) → (ended ≡ false → 100 ≤ length s) → (ended ≡ true → next ≡ []) → begun_as (settings_at s) ≡ begun.Stop why → output (s ++ next) ≡ last_line why 0 0 0 0
+none_after : (s next : List ℕ) (ended : Bool) (why : Stop) → (ended ≡ false → 100 ≤ length s) → (ended ≡ true → next ≡ []) → begun_as (settings_at s) ≡ Err why → output (s ++ next) ≡ last_line why 0 0 0 0
 none_after s next true why h n e = rw (n refl, append-nil s) (none_reached s why e)
 none_after s next false why h n e = go (settings-more s next)
   where
-    go : Settles preamble.Short (settings_at s) (settings_at (s ++ next)) → output (s ++ next) ≡ last_line why 0 0 0 0
+    go : Settles (Err Short) (settings_at s) (settings_at (s ++ next)) → output (s ++ next) ≡ last_line why 0 0 0 0
     go (inl q) = absurd (settings_there s (h refl) q)
     go (inr q) = none_reached (s ++ next) why (ap begun_as q ∙ e)
 
 -- Of the bytes that its reads brought, in order, what the program put to be written is the start of what is printed for them. Where every
 -- read and write did its work it is all of it, for the program ends where the input has ended, or where nothing that may come would be
 -- printed; and the room for lines holds the last line.
-pub performed : {m : Lent} {b : Account} {r : Work} {m' : Lent} (p : Performed m b r m')
+pub performed : {m : Lent} {b : Account} {r : Result ⊤ Fault} {m' : Lent} (p : Performed m b r m')
     → Prefix b.put (output b.brought)
-    × (r ≡ Whole → (next : List ℕ) → (is_ended p ≡ true → next ≡ []) → output (b.brought ++ next) ≡ b.put)
-    × (r ≡ Whole → Lasts (output b.brought) m'.room)
-performed (unread have input) = ((_, refl), λ e next n. never (sym (ap worked e)), λ e. never (sym (ap worked e)))
+    × (r ≡ Ok tt → (next : List ℕ) → (is_ended p ≡ true → next ≡ []) → output (b.brought ++ next) ≡ b.put)
+    × (r ≡ Ok tt → Lasts (output b.brought) m'.room)
+performed (unread have input) = ((_, refl), λ e next n. never (sym (ap is_ok e)), λ e. never (sym (ap is_ok e)))
 performed (unreached {b} {room'} have ended input why r n h e o) =
     let p : b ≡ writes (last_line why 0 0 0 0) = o.flushed.puts ∙ ap writes o.text in
     let l : length (take have input) ≡ have = length-take-le have input h in
@@ -347,26 +341,26 @@ performed (unreached {b} {room'} have ended input why r n h e o) =
       λ q next f. none_after (take have input) next ended why (λ i. rw l (n i)) f e,
       λ q. record { front = []; why = why; left = 0; byte = 0; applied = 0; growth = 0; over = begun_over (settings_at (take have input)) why e; is = printed; there = stands_there o.end room' _ o.text },
     )
-performed {m} (played {m'} have ended input t z next r n h e q) =
-    let done = q.ended.done in
-    let whole : r ≡ Whole → q.ended.state.standing.work ≡ Whole = λ w. sym q.ended.work ∙ w in
-    (last.start, λ w later f. last.all done (whole w) later f, λ w. last.line done (whole w))
+performed {m} (played {m'} have ended input b r n h e q) =
+    let is_done = q.ended.done in
+    let whole : r ≡ Ok tt → work q.ended.state.standing ≡ Ok tt = λ w. sym q.ended.work ∙ w in
+    (last.start, λ w later f. last.all is_done (whole w) later f, λ w. last.line is_done (whole w))
   where
     first : State
-    first = record { connection = q.connection; applied = 0; before = 0; standing = record { at = next; have = have; put = 0; ended = ended; done = false; work = Whole } }
+    first = record { connection = q.connection; applied = 0; before = 0; standing = record { at = b.next; have = have; put = 0; ended = ended; outcome = None } }
 
     made : Lent
     made = lent q.table q.links q.pool input m.room
 
     here : Stands (reads (take have input)) first made
     here =
-        let f = events_reached (take have input) t z next e in
+        let f = events_reached (take have input) b e in
         record {
           valid = q.valid;
           at = omega (arith, f.inside, length-take-le have input h);
           have = h;
           put = omega arith;
-          owes = λ later. rw (q.new f.config (permitted_too most t f.config f.fine), zero-add next) (f.prints later);
+          owes = λ later. rw (q.new f.config (permitted_too most b.settings f.config f.fine), zero-add b.next) (f.prints later);
         }
 
     last : Told (then (reads (take have input)) q.ended.account) q.ended.state m'.room

@@ -16,11 +16,11 @@ use Rattle.trace.specs.declared.Report.{Report}
 use Rattle.trace.specs.declared.Stop.{Stop}
 use Rattle.trace_play.specs.Places.{after_run, moved, fed_on, some, left, Nears}
 use Rattle.rules.proofs.Lists.{never}
+use Rattle.std.specs.Prelude.{Option, Some, None, Result, Ok, Err, ⊤}
+use Rattle.std.specs.declared.io.Error.{Error}
 use Rattle.filter.specs.Account.{Account}
-use Rattle.filter.specs.Parts.{kept, Inside, after_read, after_write, Fed}
+use Rattle.filter.specs.Parts.{kept, Inside, after_read, after_write, done, Fed}
 use Rattle.filter.specs.declared.Standing.{Standing}
-use Rattle.filter.specs.declared.Got.{Got}
-use Rattle.filter.specs.declared.Got.TheVariants.{More, End, Failed}
 use Rattle.trace_play.specs.declared.State.{State}
 
 less : (x y z : ℕ) → x < y → y ≤ z → x < z
@@ -43,9 +43,9 @@ pub kept-length : (s : List ℕ) (from to : ℕ) → from ≤ to → to ≤ leng
 kept-length s from to h k = rw (le-leb to (length s) k) (length-take-le (to - from) (drop from s) (rw (length-drop from s) (omega arith)))
 
 -- lines are written where there were too many for one more
-pub flushed : (s : State) (written : Bool) (room : ℕ) → longest_line ≤ room → room - s.standing.put < longest_line → s.standing.done ≡ false → Nears s (moved s (after_write s.standing written))
-flushed s true room h l live e = let x = some_any s.standing.put (omega arith) in omega (arith, x)
-flushed s false room h l live e = never e
+pub flushed : (s : State) (written : Result ⊤ Error) (room : ℕ) → longest_line ≤ room → room - s.standing.put < longest_line → done s.standing ≡ false → Nears s (moved s (after_write s.standing written))
+flushed s (Ok u) room h l live e = let x = some_any s.standing.put (omega arith) in omega (arith, x)
+flushed s (Err x) room h l live e = never e
 
 -- the input goes on, or it has ended
 pub fed : (input : List ℕ) (s : State) (x : Standing) (input' : List ℕ) → s.standing.at ≤ s.standing.have → s.standing.have ≤ length input
@@ -55,10 +55,10 @@ fed input s x input' h i l live f = go f.got f.inside f.is
     n : ℕ
     n = length (kept input s.standing.at s.standing.have)
 
-    go : (got : Got) → Inside n (length input) got → x ≡ after_read s.standing n got → Nears s (fed_on s x)
-    go (More m) j e = rw (e, live) (λ z. omega (arith, j.0, kept-length input s.standing.at s.standing.have h i))
-    go End j e = rw (e, live) (λ z. omega (arith, kept-length input s.standing.at s.standing.have h i))
-    go Failed j e = rw e (λ z. never z)
+    go : (got : Result (Option ℕ) Error) → Inside n (length input) got → x ≡ after_read s.standing n got → Nears s (fed_on s x)
+    go (Ok (Some m)) j e = rw (e, live) (λ z. omega (arith, j.0, kept-length input s.standing.at s.standing.have h i))
+    go (Ok None) j e = rw (e, live) (λ z. omega (arith, kept-length input s.standing.at s.standing.have h i))
+    go (Err y) j e = rw e (λ z. never z)
 
 -- a run applies no event and stays, or applies some
 pub ran : (s : State) (r : Report)
@@ -76,11 +76,11 @@ lacks_as why size at room put {have} {free} e f l = subst (λ (n : ℕ). Lacks w
 
 -- the turns that there may still be
 abbrev pub turns_left : State → ℕ
-turns_left s = cond s.standing.done 0 (suc (left s))
+turns_left s = cond (done s.standing) 0 (suc (left s))
 
-pub sinks : (s s' : State) → s.standing.done ≡ false → Nears s s' → turns_left s' < turns_left s
-sinks s s' live n = rw live (go s'.standing.done refl)
+pub sinks : (s s' : State) → done s.standing ≡ false → Nears s s' → turns_left s' < turns_left s
+sinks s s' live n = rw live (go (done s'.standing) refl)
   where
-    go : (b : Bool) → s'.standing.done ≡ b → cond b 0 (suc (left s')) < suc (left s)
+    go : (b : Bool) → done s'.standing ≡ b → cond b 0 (suc (left s')) < suc (left s)
     go true e = omega arith
     go false e = omega (arith, n e)

@@ -1,40 +1,42 @@
 -- Settings that a trace may have ask for no more than the program has, and make a connection. Assumes nothing.
+use Rattle.std.specs.Prelude.{Ok, Result, Err}
 use mathlib.Core.Path.{◌≡◌, refl, sym, ap, subst, ◌∙◌}
 use mathlib.Core.Bool.{true}
 use mathlib.Core.List.{List, ◌++◌}
 use Prim.Native.Nat.{ℕ, ◌*◌, ◌≤◌}
 use native.Mathlib.Omega.{arith}
-use lib.Dec.{leb, eqb}
+use lib.Dec.{leb}
 use lib.ListN.{length, take}
 use lib.Seq.{length-take-le, take-append_seam}
-use borrow.Author.Tests.{leb-true, eqb-true, eq-eqb}
+use borrow.Author.Tests.{leb-true, eq-eqb}
 use Rattle.rules.proofs.Judging.{all_hold, permitted_too}
 use Rattle.rules.proofs.Lists.{both}
+use Rattle.std.specs.Prelude.{Result, Err, ⊤}
 use Rattle.rules.specs.Settings.{within, checked}
 use Rattle.rules.specs.State.{initial}
 use Rattle.rules.specs.declared.Settings.{Settings}
 use Rattle.rules.specs.declared.Setting.{Setting}
 use Rattle.rules.specs.declared.Setting.TheVariants as setting
 use Rattle.rules.specs.declared.Config.{Config}
-use Rattle.rules.specs.declared.Checked.TheVariants as settings
 use Rattle.connection.specs.Abstract.{abs_of, Valid}
 use Rattle.connection.specs.declared.Connection.{Connection}
 use Rattle.chunks.specs.Blocks.{BLOCK, blocks_for}
 use Rattle.table.specs.Table.{size}
 use Rattle.connection_open.specs.Start.{sized, Begins, Creates}
-use Rattle.connection_open.specs.declared.Created.{Created}
-use Rattle.connection_open.specs.declared.Created.TheVariants.{Made, Wrong, Size}
+use Rattle.connection_open.specs.declared.NotCreated.{NotCreated}
+use Rattle.connection_open.specs.declared.NotCreated.TheVariants.{Wrong, Size}
 use Rattle.trace_events.specs.Format.{settings_at}
+use Rattle.std.specs.Prelude.{Ok, Err}
 use Rattle.trace.specs.Output.{most, sizes_of, begun_as}
 use Rattle.trace.specs.declared.Stop.{Stop}
 use Rattle.trace.specs.declared.ends.Sizes.{Sizes}
-use Rattle.trace.specs.declared.ends.Begun.TheVariants as begun
+use Rattle.trace.specs.declared.ends.Begun.{Begun}
 use Rattle.trace.proofs.Remaining.{Prepared}
 use Rattle.filter.specs.Account.{reads}
 use Rattle.filter.specs.Parts.{holding}
 use Rattle.filter.specs.declared.Standing.{Standing}
-use Rattle.filter.specs.declared.Work.{Work}
-use Rattle.filter.specs.declared.Work.TheVariants.{Unread}
+use Rattle.filter.specs.declared.Fault.{Fault}
+use Rattle.filter.specs.declared.Fault.TheVariants.{Unread}
 use Rattle.trace_events.specs.Calls.{longest}
 use Rattle.trace_lines.specs.Writing.{longest_line}
 use Rattle.trace_play.specs.Places.{Roomy, sized_for}
@@ -42,24 +44,24 @@ use Rattle.trace_play.specs.Plays.{Lent, lent, Fitting, Started, OnlyLine, Lines
 
 -- ---- the connection
 
-module _ (t : Settings) (table links pool : List ℕ) (f : Fitting t (length table) (length links) (length pool)) (r : Created) (t' l' p' : List ℕ) (k : Creates t table links pool r t' l' p') where
-  begins : (x : Created) → r ≡ x → Begins f.config x t' l' p'
-  begins x e = subst (λ (y : Created). Begins f.config y t' l' p') e (k.made f.config f.fine f.fits)
+module _ (t : Settings) (table links pool : List ℕ) (f : Fitting t (length table) (length links) (length pool)) (r : Result Connection NotCreated) (t' l' p' : List ℕ) (k : Creates t table links pool r t' l' p') where
+  begins : (x : Result Connection NotCreated) → r ≡ x → Begins f.config x t' l' p'
+  begins x e = subst (λ (y : Result Connection NotCreated). Begins f.config y t' l' p') e (k.made f.config f.fine f.fits)
 
-  pub made-valid : (c : Connection) → r ≡ Made c → Valid c t' l' p'
-  made-valid c e = (begins (Made c) e).0
+  pub made-valid : (c : Connection) → r ≡ Ok c → Valid c t' l' p'
+  made-valid c e = (begins (Ok c) e).0
 
-  pub made-new : (c : Connection) → r ≡ Made c → (j : Config) → checked t ≡ settings.Fine j → abs_of c t' l' p' ≡ initial j
+  pub made-new : (c : Connection) → r ≡ Ok c → (j : Config) → checked t ≡ Ok j → abs_of c t' l' p' ≡ initial j
   made-new c e j g =
-      let h : settings.Fine f.config ≡ settings.Fine j = sym f.fine ∙ g in
+      let h : Ok f.config ≡ Ok j = sym f.fine ∙ g in
       let same : f.config ≡ j = cc in
-      rw (← same) (begins (Made c) e).1
+      rw (← same) (begins (Ok c) e).1
 
-  pub never-wrong : (w : Setting) → r ≡ Wrong w → ⊥
-  never-wrong w e = begins (Wrong w) e
+  pub never-wrong : (w : Setting) → r ≡ Err (Wrong w) → ⊥
+  never-wrong w e = begins (Err (Wrong w)) e
 
-  pub never-size : r ≡ Size → ⊥
-  never-size e = begins Size e
+  pub never-size : r ≡ Err Size → ⊥
+  never-size e = begins (Err Size) e
 
 -- ---- the settings
 
@@ -94,11 +96,11 @@ module _ {s : List ℕ} {t : Settings} {z : Sizes} {next : ℕ} (f : Prepared s 
   }
 
 -- the settings are not read
-pub unread_performs : (m : Lent) (have : ℕ) (input : List ℕ) (r : Work) → r ≡ Unread → Performs m r (lent m.table m.links m.pool input m.room)
-unread_performs m have input r e = (_, subst (λ (w : Work). Performed m (reads (take have input)) w (lent m.table m.links m.pool input m.room)) (sym e) (unread have input))
+pub unread_performs : (m : Lent) (have : ℕ) (input : List ℕ) (r : Result ⊤ Fault) → r ≡ Err Unread → Performs m r (lent m.table m.links m.pool input m.room)
+unread_performs m have input r e = (_, subst (λ (w : Result ⊤ Fault). Performed m (reads (take have input)) w (lent m.table m.links m.pool input m.room)) (sym e) (unread have input))
 
 -- no event is reached
-pub line_performs : (m : Lent) (x : Standing) (input : List ℕ) (why : Stop) (r : Work) {room' : List ℕ} → x ≡ holding x.have x.ended → Enough x.have x.ended → x.have ≤ length input → begun_as (settings_at (take x.have input)) ≡ begun.Stop why
+pub line_performs : (m : Lent) (x : Standing) (input : List ℕ) (why : Stop) (r : Result ⊤ Fault) {room' : List ℕ} → x ≡ holding x.have x.ended → Enough x.have x.ended → x.have ≤ length input → begun_as (settings_at (take x.have input)) ≡ Err why
     → Lines why x r room' → Performs m r (lent m.table m.links m.pool input room')
 line_performs m x input why r {room'} e n h g q = (_, unreached x.have x.ended input why r n h g (subst (λ (y : Standing). OnlyLine why y q.0 r room') e q.1))
 
@@ -107,27 +109,27 @@ front_is : (front rest : List ℕ) (n : ℕ) → length front ≡ n → take n (
 front_is front rest n e = ap (λ (k : ℕ). take k (front ++ rest)) (sym e) ∙ take-append_seam front rest
 
 -- the events are played from the place after the settings on
-pub plays : (m : Lent) (x : Standing) (input : List ℕ) (t : Settings) (z : Sizes) (next : ℕ) (r : Work) {t' l' p' input' room' : List ℕ} (more-t more-l more-p : List ℕ) → length t' ≡ z.table → length l' ≡ z.links → length p' ≡ z.pool
+pub plays : (m : Lent) (x : Standing) (input : List ℕ) (b : Begun) (r : Result ⊤ Fault) {t' l' p' input' room' : List ℕ} (more-t more-l more-p : List ℕ)
+    → length t' ≡ b.sizes.table → length l' ≡ b.sizes.links → length p' ≡ b.sizes.pool
     → x ≡ holding x.have x.ended → Enough x.have x.ended → x.have ≤ length input
-    → begun_as (settings_at (take x.have input)) ≡ begun.Fine t z next
-    → Started t (record { at = next; have = x.have; put = x.put; ended = x.ended; done = x.done; work = x.work }) input m.room r (lent t' l' p' input' room')
+    → begun_as (settings_at (take x.have input)) ≡ Ok b
+    → Started b.settings (record { at = b.next; have = x.have; put = x.put; ended = x.ended; outcome = x.outcome }) input m.room r (lent t' l' p' input' room')
     → Performs m r (lent (t' ++ more-t) (l' ++ more-l) (p' ++ more-p) input' room')
-plays m x input t z next r {t'} {l'} {p'} {input'} {room'} more-t more-l more-p a b c e n h g q =
-    let w = subst (λ (y : Standing). Started t (record { at = next; have = y.have; put = y.put; ended = y.ended; done = y.done; work = y.work }) input m.room r (lent t' l' p' input' room')) e q in (
+plays m x input b r {t'} {l'} {p'} {input'} {room'} more-t more-l more-p i j k e n h g q =
+    let w = subst (λ (y : Standing). Started b.settings (record { at = b.next; have = y.have; put = y.put; ended = y.ended; outcome = y.outcome }) input m.room r (lent t' l' p' input' room')) e q in (
       _,
-      played {m' = lent (t' ++ more-t) (l' ++ more-l) (p' ++ more-p) input' room'} x.have x.ended input t z next r n h g (rw (front_is t' more-t z.table a, front_is l' more-l z.links b, front_is p' more-p z.pool c) w),
+      played {m' = lent (t' ++ more-t) (l' ++ more-l) (p' ++ more-p) input' room'} x.have x.ended input b r n h g (rw (front_is t' more-t b.sizes.table i, front_is l' more-l b.sizes.links j, front_is p' more-p b.sizes.pool k) w),
     )
 
 -- ---- what is lent
 
 -- what is judged to be enough
 pub enough : (t l p sent bytes input room : ℕ) → sized_for t l p sent bytes input room ≡ true
-    → (2700 ≤ t) × (616 ≤ l) × (630784 ≤ p) × (sent ≡ 12) × (bytes ≡ 16384) × Roomy input room
+    → (2700 ≤ t) × (616 ≤ l) × (630784 ≤ p) × Roomy input room
 enough t l p sent bytes input room e =
     let a = both (leb 2700 t) _ e in
     let b = both (leb 616 l) _ a.1 in
     let c = both (leb 630784 p) _ b.1 in
     let d = both (leb longest input) _ c.1 in
     let f = both (leb longest_line room) _ d.1 in
-    let g = both (eqb sent 12) _ f.1 in
-    (leb-true _ _ a.0, leb-true _ _ b.0, leb-true _ _ c.0, eqb-true _ _ g.0, eqb-true _ _ g.1, (leb-true _ _ d.0, leb-true _ _ f.0))
+    (leb-true _ _ a.0, leb-true _ _ b.0, leb-true _ _ c.0, (leb-true _ _ d.0, leb-true _ _ f.0))

@@ -4,37 +4,37 @@ use mathlib.Core.Bool.{Bool, true, false}
 use mathlib.Core.List.{List}
 use Prim.Native.Nat.{ℕ}
 use Rattle.rules.proofs.Lists.{never}
+use Rattle.std.specs.Prelude.{Option, Some, None, Result, Ok, Err, ⊤}
+use Rattle.std.specs.declared.io.Error.{Error}
 use Rattle.trace.specs.declared.Stop.{Stop}
 use Rattle.filter.specs.Account.{Account}
-use Rattle.filter.specs.Parts.{after_read, after_write, holding}
+use Rattle.filter.specs.Parts.{after_read, after_write, work, holding}
 use Rattle.filter.specs.declared.Standing.{Standing}
-use Rattle.filter.specs.declared.Got.{Got}
-use Rattle.filter.specs.declared.Got.TheVariants.{More, End, Failed}
-use Rattle.filter.specs.declared.Work.{Work}
-use Rattle.filter.specs.declared.Work.TheVariants.{Whole, Unread, Unwritten, Unlent}
+use Rattle.filter.specs.declared.Fault.{Fault}
+use Rattle.filter.specs.declared.Fault.TheVariants.{Unread, Unwritten, Unlent}
 use Rattle.trace_play.specs.Places.{next_task}
 use Rattle.trace_play.specs.Plays.{Closed, broken, last, putting, GoesOn, Lent, Played, Plays, none, more, Performed, unread, unreached, played}
 use Rattle.trace_play.specs.declared.State.{State}
 use Rattle.trace_play.specs.declared.Task.{Task}
 use Rattle.trace_play.specs.declared.Task.TheVariants as task
 
-abbrev tried : Work → Bool
-tried Whole = true
-tried Unread = true
-tried Unwritten = true
-tried Unlent = false
+abbrev tried : Result ⊤ Fault → Bool
+tried (Ok u) = true
+tried (Err Unread) = true
+tried (Err Unwritten) = true
+tried (Err Unlent) = false
 
 abbrev Tried : Standing → Type 0
-Tried x = tried x.work ≡ true
+Tried x = tried (work x) ≡ true
 
-wrote : (x y : Standing) (written : Bool) → y ≡ after_write x written → Tried x → Tried y
-wrote x y true e h = ap (λ (v : Standing). tried v.work) e ∙ h
-wrote x y false e h = ap (λ (v : Standing). tried v.work) e
+wrote : (x y : Standing) (written : Result ⊤ Error) → y ≡ after_write x written → Tried x → Tried y
+wrote x y (Ok u) e h = ap (λ (v : Standing). tried (work v)) e ∙ h
+wrote x y (Err f) e h = ap (λ (v : Standing). tried (work v)) e
 
-read : (x y : Standing) (front : ℕ) (got : Got) → y ≡ after_read x front got → Tried x → Tried y
-read x y front (More n) e h = ap (λ (v : Standing). tried v.work) e ∙ h
-read x y front End e h = ap (λ (v : Standing). tried v.work) e ∙ h
-read x y front Failed e h = ap (λ (v : Standing). tried v.work) e
+read : (x y : Standing) (front : ℕ) (got : Result (Option ℕ) Error) → y ≡ after_read x front got → Tried x → Tried y
+read x y front (Ok (Some n)) e h = ap (λ (v : Standing). tried (work v)) e ∙ h
+read x y front (Ok None) e h = ap (λ (v : Standing). tried (work v)) e ∙ h
+read x y front (Err f) e h = ap (λ (v : Standing). tried (work v)) e
 
 closed : {why : Stop} {s : State} {room : List ℕ} {b : Account} {s' : State} {room' : List ℕ} → Closed why s room b s' room' → Tried s.standing → Tried s'.standing
 closed {s = s} (broken {x = x} f d) h = wrote s.standing x f.written f.is h
@@ -52,10 +52,10 @@ plays : {s : State} {m : Lent} {b : Account} {s' : State} {m' : Lent} → Plays 
 plays none h = h
 plays (more p q) h = turned q (plays p h)
 
-pub never_unlent : {m : Lent} {b : Account} {m' : Lent} {r : Work} → Performed m b r m' → r ≡ Unlent → ⊥
+pub never_unlent : {m : Lent} {b : Account} {m' : Lent} {r : Result ⊤ Fault} → Performed m b r m' → r ≡ Err Unlent → ⊥
 never_unlent p e = never (sym (told p) ∙ ap tried e)
   where
-    told : {m : Lent} {b : Account} {m' : Lent} {r : Work} → Performed m b r m' → tried r ≡ true
+    told : {m : Lent} {b : Account} {m' : Lent} {r : Result ⊤ Fault} → Performed m b r m' → tried r ≡ true
     told (unread have input) = refl
     told (unreached have ended input why r n h f o) = ap tried o.work ∙ wrote (putting (holding have ended) o.end) o.to o.flushed.written o.flushed.is refl
-    told (played have ended input t z next r n h f q) = ap tried q.ended.work ∙ plays q.ended.plays refl
+    told (played have ended input b r n h f q) = ap tried q.ended.work ∙ plays q.ended.plays refl

@@ -15,6 +15,7 @@ use Rattle.trace.specs.Turns.{Lacks, Runs}
 use Rattle.trace.specs.declared.Report.{Report}
 use Rattle.trace.proofs.Applying.{run-sized}
 use Rattle.filter.specs.Account.{Account}
+use Rattle.filter.specs.Parts.{done}
 use Rattle.trace_play.specs.Places.{next_task, place_of, after_run, Counted, Sound, Nears}
 use Rattle.trace_play.specs.Plays.{Closed, broken, last, GoesOn, Goes, lent, Turns}
 use Rattle.trace_play.specs.declared.State.{State}
@@ -23,7 +24,7 @@ use Rattle.trace_play.specs.declared.Task.TheVariants as task
 use Rattle.trace_play.proofs.Nearing.{ran, then, lacks_as}
 
 module _ (s : State) (t l p sent bytes input room : List ℕ) (sound : Sound (length input) (length room) s.standing) (valid : Valid s.connection t l p)
-    (w : length sent ≡ 12) (x : length bytes ≡ 16384) (live : s.standing.done ≡ false) (counted : Counted s) (report : Report) (t' l' p' written : List ℕ) (size : length written ≡ length room)
+    (w : length sent ≡ 12) (x : length bytes ≡ 16384) (live : done s.standing ≡ false) (counted : Counted s) (report : Report) (t' l' p' written : List ℕ) (size : length written ≡ length room)
     (k : Runs (sized s.connection (length t) (length l) (length p) (length sent) (length bytes)) s.connection t l p (take s.standing.have input) room (place_of s) allowance report t' l' p' written) where
   abbrev s₁ : State
   s₁ = after_run s report

@@ -1,10 +1,9 @@
 -- Places in the program's buffers, what follows a run, and how much there is still to do.
-use Rattle.std.specs.Prelude.{◌≡◌, Bool, false, cond, ℕ, zero, suc, ◌+◌, ◌-◌, ◌*◌, ◌≤◌, ◌<◌, leb, eqb}
+use Rattle.std.specs.Prelude.{◌≡◌, Bool, false, cond, ℕ, zero, suc, ◌+◌, ◌-◌, ◌*◌, ◌≤◌, ◌<◌, leb, eqb, Option, Some, None}
+use Rattle.filter.specs.Parts.{done}
 use Rattle.filter.specs.declared.Standing.{Standing}
 use Rattle.trace_events.specs.Calls.{longest}
 use Rattle.trace_lines.specs.Writing.{longest_line}
-use Rattle.trace_lines.specs.declared.Put.{Put}
-use Rattle.trace_lines.specs.declared.Put.TheVariants as put
 use Rattle.trace.specs.Output.{allowance}
 use Rattle.trace.specs.declared.Stop.{Stop}
 use Rattle.trace.specs.declared.Stop.TheVariants as stop
@@ -15,9 +14,9 @@ use Rattle.trace_play.specs.declared.Task.{Task}
 use Rattle.trace_play.specs.declared.Task.TheVariants as task
 
 -- the place after a text at the room's start
-abbrev pub end_of : Put → ℕ
-end_of (put.At end) = end
-end_of put.Full = 0
+abbrev pub end_of : Option ℕ → ℕ
+end_of (Some end) = end
+end_of None = 0
 
 -- Where a run stopped for room, lines are written; where the input there is was short and has not ended, more is read; else all is done.
 abbrev pub next_task : Stop → Bool → Task
@@ -43,8 +42,7 @@ after_run s r = record {
     have = s.standing.have;
     put = r.place.put;
     ended = s.standing.ended;
-    done = s.standing.done;
-    work = s.standing.work;
+    outcome = s.standing.outcome;
   };
 }
 
@@ -92,4 +90,4 @@ left s = (allowance - s.applied) * (longest + 3) + ((longest - (s.standing.have 
 
 -- all is done, or less is left
 abbrev pub Nears : State → State → Type 0
-Nears s s' = s'.standing.done ≡ false → left s' < left s
+Nears s s' = done s'.standing ≡ false → left s' < left s

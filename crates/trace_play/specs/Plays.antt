@@ -1,10 +1,9 @@
 -- What the program does, turn by turn, with the account of its reads and writes.
-use Rattle.std.specs.Prelude.{◌≡◌, Bool, true, false, List, [], ◌++◌, ℕ, ◌-◌, ◌≤◌, length, take}
+use Rattle.std.specs.Prelude.{◌≡◌, Bool, true, false, List, [], ◌++◌, ℕ, ◌-◌, ◌≤◌, length, take, Some, None, Result, Ok, Err, ⊤}
 use Rattle.rules.specs.Settings.{checked}
 use Rattle.rules.specs.State.{initial}
 use Rattle.rules.specs.declared.Settings.{Settings}
 use Rattle.rules.specs.declared.Config.{Config}
-use Rattle.rules.specs.declared.Checked.TheVariants as settings
 use Rattle.connection.specs.Abstract.{abs_of, Valid}
 use Rattle.connection.specs.declared.Connection.{Connection}
 use Rattle.connection_open.specs.Start.{sized}
@@ -14,12 +13,12 @@ use Rattle.trace.specs.Turns.{Runs}
 use Rattle.trace.specs.declared.Stop.{Stop}
 use Rattle.trace.specs.declared.Report.{Report}
 use Rattle.trace.specs.declared.ends.Sizes.{Sizes}
-use Rattle.trace.specs.declared.ends.Begun.TheVariants as begun
-use Rattle.filter.specs.Parts.{holding, Flushed, Fed}
+use Rattle.trace.specs.declared.ends.Begun.{Begun}
+use Rattle.filter.specs.Parts.{holding, done, work, Flushed, Fed}
 use Rattle.filter.specs.Account.{Account, nothing, reads, then, Prefix}
 use Rattle.filter.specs.declared.Standing.{Standing}
-use Rattle.filter.specs.declared.Work.{Work}
-use Rattle.filter.specs.declared.Work.TheVariants.{Whole, Unread, Unlent}
+use Rattle.filter.specs.declared.Fault.{Fault}
+use Rattle.filter.specs.declared.Fault.TheVariants.{Unread, Unlent}
 use Rattle.trace_play.specs.Places.{next_task, place_of, after_run, moved, passed, fed_on}
 use Rattle.trace_play.specs.declared.State.{State}
 use Rattle.trace_play.specs.declared.Task.{Task}
@@ -39,16 +38,16 @@ pub record Took (s : State) (input : List ℕ) (b : Account) (s' : State) (input
 
 -- a text stands at the start of the room
 abbrev pub putting : Standing → ℕ → Standing
-putting x end = record { at = x.at; have = x.have; put = end; ended = x.ended; done = x.done; work = x.work }
+putting x end = record { at = x.at; have = x.have; put = end; ended = x.ended; outcome = x.outcome }
 
 -- all is done
 abbrev pub over : Standing → Standing
-over x = record { at = x.at; have = x.have; put = x.put; ended = x.ended; done = true; work = x.work }
+over x = record { at = x.at; have = x.have; put = x.put; ended = x.ended; outcome = Some (work x) }
 
 -- the lines that there were are written, and where that did its work, the last line, which the room then holds
 pub data Closed (why : Stop) (s : State) (room : List ℕ) : Account → State → List ℕ → Type 0 where
-  broken : {a : Account} {x : Standing} → Flushed s.standing room a x → x.done ≡ true → Closed why s room a (moved s x) room
-  last : {a b : Account} {x y : Standing} {room' : List ℕ} (end : ℕ) → Flushed s.standing room a x → x.done ≡ false
+  broken : {a : Account} {x : Standing} → Flushed s.standing room a x → done x ≡ true → Closed why s room a (moved s x) room
+  last : {a b : Account} {x y : Standing} {room' : List ℕ} (end : ℕ) → Flushed s.standing room a x → done x ≡ false
       → take end room' ≡ last_line why (s.standing.have - s.standing.at) (passed s) s.applied s.connection.growth
       → Flushed (putting x end) room' b y → Closed why s room (then a b) (moved s (over y)) room'
 
@@ -81,7 +80,7 @@ fronts z m = lent (take z.table m.table) (take z.links m.links) (take z.pool m.p
 
 -- A turn is a run over what was read and not yet taken, and what follows it.
 pub record Played (s : State) (m : Lent) (b : Account) (s' : State) (m' : Lent) : Type 0 where
-  pub live : s.standing.done ≡ false
+  pub live : done s.standing ≡ false
   pub report : Report
   pub written : List ℕ
   pub runs : Runs true s.connection m.table m.links m.pool (take s.standing.have m.input) m.room (place_of s) allowance report m'.table m'.links m'.pool written
@@ -98,38 +97,38 @@ pub data Plays (s : State) (m : Lent) : Account → State → Lent → Type 0 wh
   more : {a b : Account} {s₁ s₂ : State} {m₁ m₂ : Lent} → Plays s m a s₁ m₁ → Played s₁ m₁ b s₂ m₂ → Plays s m (then a b) s₂ m₂
 
 -- until all is done, with the work that reads and writes did and what is then in what is lent
-pub record Ended (s : State) (m : Lent) (r : Work) (m' : Lent) : Type 0 where
+pub record Ended (s : State) (m : Lent) (r : Result ⊤ Fault) (m' : Lent) : Type 0 where
   pub account : Account
   pub state : State
   pub plays : Plays s m account state m'
-  pub done : state.standing.done ≡ true
-  pub work : r ≡ state.standing.work
+  pub done : done state.standing ≡ true
+  pub work : r ≡ work state.standing
 
 -- settings that are accepted, and memory of the sizes that they ask for
 pub record Fitting (t : Settings) (table links pool : ℕ) : Type 0 where
   pub config : Config
-  pub fine : checked t ≡ settings.Fine config
+  pub fine : checked t ≡ Ok config
   pub fits : sized config table links pool ≡ true
 
 -- a new connection, of which no event is applied
-pub record Started (t : Settings) (x : Standing) (input room : List ℕ) (r : Work) (m' : Lent) : Type 0 where
+pub record Started (t : Settings) (x : Standing) (input room : List ℕ) (r : Result ⊤ Fault) (m' : Lent) : Type 0 where
   pub connection : Connection
   pub table : List ℕ
   pub links : List ℕ
   pub pool : List ℕ
   pub valid : Valid connection table links pool
-  pub new : (k : Config) → checked t ≡ settings.Fine k → abs_of connection table links pool ≡ initial k
+  pub new : (k : Config) → checked t ≡ Ok k → abs_of connection table links pool ≡ initial k
   pub ended : Ended (record { connection = connection; applied = 0; before = 0; standing = x }) (lent table links pool input room) r m'
 
 -- the one line of a trace without an event is written, and the room holds it
-pub record OnlyLine (why : Stop) (x : Standing) (b : Account) (r : Work) (room' : List ℕ) : Type 0 where
+pub record OnlyLine (why : Stop) (x : Standing) (b : Account) (r : Result ⊤ Fault) (room' : List ℕ) : Type 0 where
   pub to : Standing
   pub end : ℕ
   pub text : take end room' ≡ last_line why 0 0 0 0
   pub flushed : Flushed (putting x end) room' b to
-  pub work : r ≡ to.work
+  pub work : r ≡ work to
 
-abbrev pub Lines : Stop → Standing → Work → List ℕ → Type 0
+abbrev pub Lines : Stop → Standing → Result ⊤ Fault → List ℕ → Type 0
 Lines why x r room' = (b : Account) × OnlyLine why x b r room'
 
 -- the first hundred bytes, which decide the settings, are there, or the input has ended
@@ -139,27 +138,27 @@ Enough have ended = ended ≡ false → 100 ≤ have
 -- What the program does with a standard input, from what is lent to what is in it after, and the work that reads and writes did: the settings
 -- are not read, or no event is reached and the last line is put, or the events are played from the place after the settings on, in as much of
 -- table, links and pool as the settings ask for.
-pub data Performed (m : Lent) : Account → Work → Lent → Type 0 where
-  unread : (have : ℕ) (input : List ℕ) → Performed m (reads (take have input)) Unread (lent m.table m.links m.pool input m.room)
-  unreached : {b : Account} {room' : List ℕ} (have : ℕ) (ended : Bool) (input : List ℕ) (why : Stop) (r : Work) → Enough have ended → have ≤ length input → begun_as (settings_at (take have input)) ≡ begun.Stop why → OnlyLine why (holding have ended) b r room'
+pub data Performed (m : Lent) : Account → Result ⊤ Fault → Lent → Type 0 where
+  unread : (have : ℕ) (input : List ℕ) → Performed m (reads (take have input)) (Err Unread) (lent m.table m.links m.pool input m.room)
+  unreached : {b : Account} {room' : List ℕ} (have : ℕ) (ended : Bool) (input : List ℕ) (why : Stop) (r : Result ⊤ Fault) → Enough have ended → have ≤ length input → begun_as (settings_at (take have input)) ≡ Err why → OnlyLine why (holding have ended) b r room'
       → Performed m (then (reads (take have input)) b) r (lent m.table m.links m.pool input room')
-  played : {m' : Lent} (have : ℕ) (ended : Bool) (input : List ℕ) (t : Settings) (z : Sizes) (next : ℕ) (r : Work) → Enough have ended → have ≤ length input → begun_as (settings_at (take have input)) ≡ begun.Fine t z next
-      → (e : Started t (record { at = next; have = have; put = 0; ended = ended; done = false; work = Whole }) input m.room r (fronts z m'))
+  played : {m' : Lent} (have : ℕ) (ended : Bool) (input : List ℕ) (begun : Begun) (r : Result ⊤ Fault) → Enough have ended → have ≤ length input → begun_as (settings_at (take have input)) ≡ Ok begun
+      → (e : Started begun.settings (record { at = begun.next; have = have; put = 0; ended = ended; outcome = None }) input m.room r (fronts begun.sizes m'))
       → Performed m (then (reads (take have input)) e.ended.account) r m'
 
 -- whether a read said that the input has ended
-abbrev pub is_ended : {m : Lent} {b : Account} {r : Work} {m' : Lent} → Performed m b r m' → Bool
+abbrev pub is_ended : {m : Lent} {b : Account} {r : Result ⊤ Fault} {m' : Lent} → Performed m b r m' → Bool
 is_ended (unread have input) = false
 is_ended (unreached have ended input why r n h e o) = ended
-is_ended (played have ended input t z next r n h e q) = q.ended.state.standing.ended
+is_ended (played have ended input b r n h e q) = q.ended.state.standing.ended
 
-abbrev pub Performs : Lent → Work → Lent → Type 0
+abbrev pub Performs : Lent → Result ⊤ Fault → Lent → Type 0
 Performs m r m' = (b : Account) × Performed m b r m'
 
 -- where what is lent is of a wrong size, that is said, and nothing is done
-abbrev pub Replays : Bool → Lent → Work → Lent → Type 0
+abbrev pub Replays : Bool → Lent → Result ⊤ Fault → Lent → Type 0
 Replays true m r m' = Performs m r m'
-Replays false m r m' = (r ≡ Unlent) × (m' ≡ m)
+Replays false m r m' = (r ≡ Err Unlent) × (m' ≡ m)
 
 -- The last line of a text stands at the room's start: one of a run that is over, for a run that stopped for room has none.
 pub record Lasts (text room : List ℕ) : Type 0 where

@@ -4,23 +4,23 @@
 mod sizes;
 
 ghost use Rattle.std.specs.Prelude.{◌≡◌, false, ◌≤◌, length, take};
+ghost use Rattle.filter.specs.Parts.{done};
 ghost use Rattle.connection.specs.Abstract.{Valid};
 ghost use Rattle.trace.specs.Output.{last_line};
 ghost use Rattle.trace.specs.Turns.{Lacks, Untouched};
-ghost use Rattle.trace_play.specs.Places.{end_of, next_task, place_of, after_run, passed, Counted, Sound, Roomy, Nears, sized_for};
+ghost use Rattle.trace_play.specs.Places.{next_task, place_of, after_run, passed, Counted, Sound, Roomy, Nears, sized_for};
 ghost use Rattle.trace_play.specs.Plays.{lent, Goes, Closes, Lines, Turns, Ended, Fitting, Started, Performs, Replays};
 
 use connection::Connection;
-use connection_open::Created;
-use filter::{Standing, Work};
+use filter::{Fault, Standing};
+use frame::header::HEADER_SIZE;
 use rules::Settings;
 use std::io::{Read, Write};
-use trace::{Begun, Place, Report, Stop};
-use trace_lines::Put;
+use trace::{Place, Report, SCRATCH, Stop};
 
 // The connection, the events applied, the bytes of the input that lie before those in the buffer, and where the program stands in its input
 // and its output.
-#[derive(Clone, Copy)]
+#[derive(Clone, Copy, Debug, PartialEq, Eq)]
 struct State {
     connection: Connection,
     applied: u64,
@@ -29,7 +29,7 @@ struct State {
 }
 
 // What follows a run.
-#[derive(Clone, Copy)]
+#[derive(Clone, Copy, Debug, PartialEq, Eq)]
 enum Task {
     Write,
     Read,
@@ -47,26 +47,8 @@ fn next_task(stop: Stop, ended: bool) -> Task
 {
     match stop {
         Stop::Full => Task::Write,
-        Stop::Short => {
-            if ended {
-                return Task::End;
-            }
-            Task::Read
-        }
-        Stop::Bad => Task::End,
-        Stop::Spent => Task::End,
-        Stop::Wrong(_) => Task::End,
-        Stop::Size => Task::End,
-    }
-}
-
-// The place after a text that was put at the room's start: nothing where there was no room.
-fn end_of(put: Put) -> usize
-    ensures { result ≡ end_of put }
-{
-    match put {
-        Put::At(end) => end,
-        Put::Full => 0,
+        Stop::Short if !ended => Task::Read,
+        _ => Task::End,
     }
 }
 
@@ -76,8 +58,7 @@ fn last_line(stop: Stop, left: usize, byte: u64, applied: u64, growth: u64, out:
     ensures out_after { take result out.new ≡ last_line stop left byte applied growth }
     ensures upper_bound { result ≤ length out.old }
 {
-    let put = trace::finish(out, 0, stop, left, byte, applied, growth);
-    end_of(put)
+    trace::finish(out, 0, stop, left, byte, applied, growth).unwrap_or(0)
 }
 
 // The bytes of the input before the place where the program stands.
@@ -85,33 +66,32 @@ fn passed(state: State) -> u64
     requires { Counted state }
     ensures { result ≡ passed state }
 {
-    let standing = state.standing;
-    state.before + standing.at as u64
+    state.before + state.standing.at as u64
 }
 
 // Writes the lines that there are, and the last line.
 fn finish<W: Write>(state: State, stop: Stop, output: &mut W, out: &mut [u8]) -> State
-    requires inside { (state.standing.at ≤ state.standing.have) × (state.standing.put ≤ length out.old) × (100 ≤ length out.old) × (state.standing.done ≡ false) }
+    requires inside { (state.standing.at ≤ state.standing.have) × (state.standing.put ≤ length out.old) × (100 ≤ length out.old) × (done state.standing ≡ false) }
     requires counted { Counted state }
     ensures { Closes stop state out.old result out.new }
 {
     let standing = state.standing;
-    let flushed = filter::flush(standing, output, &out[..]);
-    if flushed.done {
+    let flushed = standing.flush(output, out);
+    if flushed.outcome.is_some() {
         return State {
             standing: flushed,
             ..state
         };
     }
-    let connection = state.connection;
     let left = standing.have - standing.at;
-    let byte = passed(state);
-    let put = last_line(stop, left, byte, state.applied, connection.growth, out);
-    let line = Standing { put, ..flushed };
-    let last = filter::flush(line, output, &out[..]);
-    let closed = Standing { done: true, ..last };
+    let growth = state.connection.growth;
+    let put = last_line(stop, left, passed(state), state.applied, growth, out);
+    let last = Standing { put, ..flushed }.flush(output, out);
     State {
-        standing: closed,
+        standing: Standing {
+            outcome: Some(last.work()),
+            ..last
+        },
         ..state
     }
 }
@@ -128,29 +108,23 @@ fn go_on<R: Read, W: Write>(
     requires sound { Sound (length src.old) (length out.old) state.standing }
     requires roomy { Roomy (length src.old) (length out.old) }
     requires lacks { Lacks stop state.standing.have state.standing.at (length out.old) state.standing.put }
-    requires not_done { state.standing.done ≡ false }
+    requires not_done { done state.standing ≡ false }
     requires counted { Counted state }
     ensures sound_after { Sound (length src.old) (length out.old) result.standing }
     ensures nears { Nears state result }
     ensures counted_after { Counted result }
     ensures goes { Goes stop state src.old out.old result src.new out.new }
 {
-    let standing = state.standing;
-    let task = next_task(stop, standing.ended);
-    match task {
-        Task::Write => {
-            let flushed = filter::flush(standing, output, &out[..]);
-            State {
-                standing: flushed,
-                ..state
-            }
-        }
+    match next_task(stop, state.standing.ended) {
+        Task::Write => State {
+            standing: state.standing.flush(output, out),
+            ..state
+        },
         Task::Read => {
             let before = passed(state);
-            let fed = filter::feed(standing, input, src);
             State {
                 before,
-                standing: fed,
+                standing: state.standing.feed(input, src),
                 ..state
             }
         }
@@ -162,11 +136,10 @@ fn go_on<R: Read, W: Write>(
 fn place_of(state: State) -> Place
     ensures { result ≡ place_of state }
 {
-    let standing = state.standing;
     Place {
-        at: standing.at,
+        at: state.standing.at,
         applied: state.applied,
-        put: standing.put,
+        put: state.standing.put,
     }
 }
 
@@ -174,18 +147,15 @@ fn place_of(state: State) -> Place
 fn after_run(state: State, report: Report) -> State
     ensures { result ≡ after_run state report }
 {
-    let connection = report.connection;
-    let here = report.place;
-    let old = state.standing;
-    let standing = Standing {
-        at: here.at,
-        put: here.put,
-        ..old
-    };
+    let Place { at, applied, put } = report.place;
     State {
-        connection,
-        applied: here.applied,
-        standing,
+        connection: report.connection,
+        applied,
+        standing: Standing {
+            at,
+            put,
+            ..state.standing
+        },
         ..state
     }
 }
@@ -198,15 +168,15 @@ fn turn<R: Read, W: Write>(
     table: &mut [u64],
     links: &mut [u32],
     pool: &mut [u8],
-    sent: &mut [u8],
-    bytes: &mut [u8],
+    sent: &mut [u8; HEADER_SIZE],
+    bytes: &mut [u8; SCRATCH],
     src: &mut [u8],
     out: &mut [u8],
 ) -> State
     requires sound { Sound (length src.old) (length out.old) state.standing }
     requires roomy { Roomy (length src.old) (length out.old) }
-    requires valid { Valid state.connection table.old links.old pool.old × (length sent.old ≡ 12) × (length bytes.old ≡ 16384) }
-    requires not_done { state.standing.done ≡ false }
+    requires valid { Valid state.connection table.old links.old pool.old }
+    requires not_done { done state.standing ≡ false }
     requires counted { Counted state }
     ensures sound_after { Sound (length src.old) (length out.old) result.standing }
     ensures nears { Nears state result }
@@ -214,25 +184,20 @@ fn turn<R: Read, W: Write>(
     ensures valid_after { Valid result.connection table.new links.new pool.new }
     ensures turns { Turns state (lent table.old links.old pool.old src.old out.old) result (lent table.new links.new pool.new src.new out.new) }
 {
-    let connection = state.connection;
-    let standing = state.standing;
-    let have = standing.have;
-    let place = place_of(state);
     let report = trace::run(
-        connection,
+        state.connection,
         table,
         links,
         pool,
         sent,
         bytes,
-        &src[..have],
+        &src[..state.standing.have],
         out,
-        place,
+        place_of(state),
         ALLOWANCE,
     );
-    let stop = report.stop;
     let next = after_run(state, report);
-    go_on(next, stop, input, output, src, out)
+    go_on(next, report.stop, input, output, src, out)
 }
 
 // Turn by turn, until all is done, and returns the work that reads and writes did. Each turn but the last leaves less to do, so this ends
@@ -244,38 +209,38 @@ fn play<R: Read, W: Write>(
     table: &mut [u64],
     links: &mut [u32],
     pool: &mut [u8],
-    sent: &mut [u8],
-    bytes: &mut [u8],
+    sent: &mut [u8; HEADER_SIZE],
+    bytes: &mut [u8; SCRATCH],
     src: &mut [u8],
     out: &mut [u8],
-) -> Work
+) -> Result<(), Fault>
     requires sound { Sound (length src.old) (length out.old) start.standing }
     requires roomy { Roomy (length src.old) (length out.old) }
-    requires valid { Valid start.connection table.old links.old pool.old × (length sent.old ≡ 12) × (length bytes.old ≡ 16384) }
+    requires valid { Valid start.connection table.old links.old pool.old }
     requires counted { Counted start }
     ensures { Ended start (lent table.old links.old pool.old src.old out.old) result (lent table.new links.new pool.new src.new out.new) }
 {
     let mut state = start;
-    let mut done = state.standing.done;
-    while !done {
+    while state.standing.outcome.is_none() {
         state = turn(
             state, input, output, table, links, pool, sent, bytes, src, out,
         );
-        done = state.standing.done;
     }
-    let last = state.standing;
-    last.work
+    state.standing.work()
 }
 
 // Writes the one line of a trace without an event.
-fn only_line<W: Write>(stop: Stop, standing: Standing, output: &mut W, out: &mut [u8]) -> Work
+fn only_line<W: Write>(
+    stop: Stop,
+    standing: Standing,
+    output: &mut W,
+    out: &mut [u8],
+) -> Result<(), Fault>
     requires { 100 ≤ length out.old }
     ensures { Lines stop standing result out.new }
 {
     let put = last_line(stop, 0, 0, 0, 0, out);
-    let line = Standing { put, ..standing };
-    let last = filter::flush(line, output, &out[..]);
-    last.work
+    Standing { put, ..standing }.flush(output, out).work()
 }
 
 // Makes the connection, and plays the events after the settings.
@@ -286,35 +251,31 @@ fn start<R: Read, W: Write>(
     table: &mut [u64],
     links: &mut [u32],
     pool: &mut [u8],
-    sent: &mut [u8],
-    bytes: &mut [u8],
+    sent: &mut [u8; HEADER_SIZE],
+    bytes: &mut [u8; SCRATCH],
     src: &mut [u8],
     out: &mut [u8],
     standing: Standing,
-) -> Work
+) -> Result<(), Fault>
     requires sound { Sound (length src.old) (length out.old) standing }
     requires roomy { Roomy (length src.old) (length out.old) }
-    requires fitting { Fitting settings (length table.old) (length links.old) (length pool.old) × (length sent.old ≡ 12) × (length bytes.old ≡ 16384) }
+    requires fitting { Fitting settings (length table.old) (length links.old) (length pool.old) }
     requires at_bound { standing.at ≤ 100 }
     ensures { Started settings standing src.old out.old result (lent table.new links.new pool.new src.new out.new) }
 {
-    let created = connection_open::new(settings, table, links, pool);
-    match created {
-        Created::Made(connection) => {
-            let state = State {
-                connection,
-                applied: 0,
-                before: 0,
-                standing,
-            };
-            play(
-                state, input, output, table, links, pool, sent, bytes, src, out,
-            )
-        }
-        // Never: settings and sizes are right.
-        Created::Wrong(_) => Work::Unread,
-        Created::Size => Work::Unread,
-    }
+    let Ok(connection) = connection_open::new(settings, table, links, pool) else {
+        // Settings and sizes are right.
+        unreachable!();
+    };
+    let state = State {
+        connection,
+        applied: 0,
+        before: 0,
+        standing,
+    };
+    play(
+        state, input, output, table, links, pool, sent, bytes, src, out,
+    )
 }
 
 // Plays standard input in memory that is enough. Returns the work that reads and writes did.
@@ -324,33 +285,32 @@ fn perform<R: Read, W: Write>(
     table: &mut [u64],
     links: &mut [u32],
     pool: &mut [u8],
-    sent: &mut [u8],
-    bytes: &mut [u8],
+    sent: &mut [u8; HEADER_SIZE],
+    bytes: &mut [u8; SCRATCH],
     src: &mut [u8],
     out: &mut [u8],
-) -> Work
-    requires { (2700 ≤ length table.old) × (616 ≤ length links.old) × (630784 ≤ length pool.old) × (length sent.old ≡ 12) × (length bytes.old ≡ 16384) × Roomy (length src.old) (length out.old) }
+) -> Result<(), Fault>
+    requires { (2700 ≤ length table.old) × (616 ≤ length links.old) × (630784 ≤ length pool.old) × Roomy (length src.old) (length out.old) }
     ensures { Performs (lent table.old links.old pool.old src.old out.old) result (lent table.new links.new pool.new src.new out.new) }
 {
     let filled = filter::fill(input, src, SETTINGS);
-    if filled.done {
-        return filled.work;
+    if let Some(outcome) = filled.outcome {
+        return outcome;
     }
-    let have = filled.have;
-    let begun = trace::begin(&src[..have]);
-    match begun {
-        Begun::Fine(settings, sizes, next) => {
-            let a = sizes.table;
-            let b = sizes.links;
-            let p = sizes.pool;
-            let standing = Standing { at: next, ..filled };
+    match trace::begin(&src[..filled.have]) {
+        Ok(begun) => {
+            let sizes = begun.sizes;
+            let standing = Standing {
+                at: begun.next,
+                ..filled
+            };
             start(
-                settings,
+                begun.settings,
                 input,
                 output,
-                &mut table[..a],
-                &mut links[..b],
-                &mut pool[..p],
+                &mut table[..sizes.table],
+                &mut links[..sizes.links],
+                &mut pool[..sizes.pool],
                 sent,
                 bytes,
                 src,
@@ -358,11 +318,12 @@ fn perform<R: Read, W: Write>(
                 standing,
             )
         }
-        Begun::Stop(stop) => only_line(stop, filled, output, out),
+        Err(stop) => only_line(stop, filled, output, out),
     }
 }
 
 // Plays standard input in lent memory, which is judged first. Returns the work that reads and writes did.
+#[tactic(auto, using(crate::proofs::Starting::enough))]
 pub fn replay<R: Read, W: Write>(
     input: &mut R,
     output: &mut W,
@@ -373,11 +334,11 @@ pub fn replay<R: Read, W: Write>(
     bytes: &mut [u8],
     src: &mut [u8],
     out: &mut [u8],
-) -> Work
+) -> Result<(), Fault>
     ensures replays { Replays (sized_for (length table.old) (length links.old) (length pool.old) (length sent.old) (length bytes.old) (length src.old) (length out.old)) (lent table.old links.old pool.old src.old out.old) result (lent table.new links.new pool.new src.new out.new) }
     ensures untouched { Untouched (sized_for (length table.old) (length links.old) (length pool.old) (length sent.old) (length bytes.old) (length src.old) (length out.old)) sent.old bytes.old sent.new bytes.new }
 {
-    let right = sizes::sized_for(
+    if !sizes::sized_for(
         table.len(),
         links.len(),
         pool.len(),
@@ -385,9 +346,12 @@ pub fn replay<R: Read, W: Write>(
         bytes.len(),
         src.len(),
         out.len(),
-    );
-    if !right {
-        return Work::Unlent;
+    ) {
+        return Err(Fault::Unlent);
     }
+    let (Some(sent), Some(bytes)) = (sent.as_mut_array(), bytes.as_mut_array()) else {
+        // Both have their size.
+        unreachable!();
+    };
     perform(input, output, table, links, pool, sent, bytes, src, out)
 }

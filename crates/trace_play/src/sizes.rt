@@ -27,23 +27,11 @@ pub(crate) fn sized_for(
 ) -> bool
     ensures { result ≡ sized_for table links pool sent bytes src out }
 {
-    if table < TABLE {
-        return false;
-    }
-    if links < LINKS {
-        return false;
-    }
-    if pool < POOL {
-        return false;
-    }
-    if src < LONGEST_EVENT {
-        return false;
-    }
-    if out < LONGEST_LINE {
-        return false;
-    }
-    if sent != HEADER_SIZE {
-        return false;
-    }
-    bytes == SCRATCH
+    TABLE <= table
+        && LINKS <= links
+        && POOL <= pool
+        && LONGEST_EVENT <= src
+        && LONGEST_LINE <= out
+        && sent == HEADER_SIZE
+        && bytes == SCRATCH
 }

@@ -1,13 +1,8 @@
--- `chunks::init` meets its contract, by the invariant of its loop. Assumes nothing.
-use Prim.Native.Nat.{ℕ, ◌-◌, min, ◌<◌, ◌^◌}
-use mathlib.Core.Path.{◌≡◌, refl, sym, ap, subst, ◌∙◌}
-use native.Mathlib.Nat.{le_antisymm}
+-- The links that the loop wrote, and after them those that a u32 doesn't count. Assumes nothing.
+use Rattle.std.proofs.Common.{refl, arith}
+use Rattle.std.proofs.lemmas.Grind.{common_steps}
 use Rattle.chunks.proofs.Turns.{started}
 use Rattle.chunks.proofs.init.Goals as goal
 
 pub returns : goal.returns
-returns c =
-    let v = c.loop-i in
-    let e : v.i ≡ c.least-n.result = le_antisymm v.invariant.0 c.loop-i-test.false in
-    started v.links c.least-n.result _ refl refl (v.invariant.1 ∙ ap (λ (k : ℕ). min k (2 ^ 32 - 1)) (sym v.invariant.2))
-    (λ k h. v.invariant.3 k (subst (λ (x : ℕ). k < x) (sym e) h))
+returns c = started _ c.min-n.result _ refl refl (grind (arith, common_steps)) (λ k h. grind (arith, common_steps))

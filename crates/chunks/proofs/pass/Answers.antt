@@ -1,9 +1,5 @@
 -- All that is unread goes with all blocks; else the blocks that are used up go, if there are any. Assumes nothing.
-use Prim.Native.Nat.{ℕ, ◌+◌, ◌-◌, ◌/◌, ◌%◌, ◌≤◌}
-use mathlib.Core.Path.{◌≡◌, refl, sym, ap, subst, ◌∙◌}
-use mathlib.Core.List.{List}
-use native.Mathlib.Omega.{arith}
-use lib.ListN.{length, drop, length-take, drop_of_length-le}
+use Rattle.std.proofs.Common.{ℕ, ◌+◌, ◌-◌, ◌/◌, ◌%◌, ◌≤◌, ◌≡◌, refl, sym, ap, subst, ◌∙◌, List, arith, length, drop, length-take, drop_of_length-le}
 use Rattle.chunks.specs.Blocks.{BLOCK, hold, bytes}
 use Rattle.chunks.specs.Store.{state, Kept, content, nodes, size}
 use Rattle.chunks.specs.declared.Queue.{Queue}
@@ -19,9 +15,9 @@ returns-then-unread-eq0-clause-passes c =
     let a = c.args in
     let n : a.n ≤ a.q.unread = c.requires in
     let z : a.q.unread - a.n ≡ 0 = c.if-unread-eq0.true in
-    let d = c.discard-free in
-    let e = c.empty-queue.ensures in
-    let u : c.empty-queue.result.unread ≡ 0 = ap (λ (x : Queue). x.unread) e in
+    let d = c.discard in
+    let e = c.empty.ensures in
+    let u : c.empty.result.unread ≡ 0 = ap (λ (x : Queue). x.unread) e in
     λ p g. (
       subst (λ (x : Queue). Kept (state a.links.now p a.f a.q) (state d.new.links p d.result x)) (sym e) (d.ensures p g).0,
       ap (λ (x : Queue). content d.new.links p x) e ∙ sym (drop_of_length-le (content a.links.now p a.q) (spent a.links.now p a.q a.n (omega arith))),
@@ -45,5 +41,5 @@ returns-clause-passes c =
     let x = a.q.from + a.n in
     let h : x / BLOCK ≡ 0 → ⊥ = c.if-k-eq0.false in
     λ p g.
-    let r = pass_over a.links.now c.join.new.links p a.f.head a.f.count a.q.head a.q.tail (size a.q) a.q.from a.q.unread (hold (x % BLOCK + (a.q.unread - a.n))) c.low32-count.result a.n (x / BLOCK - 1) (x % BLOCK) c.hop-last.result c.link-head.result c.hop-last.ensures c.link-head.ensures c.join.ensures (omega arith) (omega (arith, c.low32-count.ensures, g.fits)) (omega arith) (omega arith) g in
+    let r = pass_over a.links.now c.join.new.links p a.f.head a.f.count a.q.head a.q.tail (size a.q) a.q.from a.q.unread (hold (x % BLOCK + (a.q.unread - a.n))) _ a.n (x / BLOCK - 1) (x % BLOCK) c.hop-last.result c.link-head.result c.hop-last.ensures c.link-head.ensures c.join.ensures (omega arith) (omega (arith, g.fits)) (omega arith) (omega arith) g in
     (r.0, r.1, λ some. refl)

@@ -1,6 +1,5 @@
 -- What is copied is passed over. Assumes nothing.
-use Prim.Native.Nat.{◌%◌}
-use mathlib.Core.Path.{refl}
+use Rattle.std.proofs.Common.{◌%◌, refl}
 use Rattle.chunks.specs.Blocks.{BLOCK}
 use Rattle.chunks.proofs.Turns.{drawn}
 use Rattle.chunks.proofs.pop.Goals as goal
@@ -8,8 +7,8 @@ use Rattle.chunks.proofs.pop.Goals as goal
 pub returns : goal.returns
 returns c =
     let g = c.gather in
-    let n = c.least-n in
+    let n = c.min-count in
     let a = c.args in (
-      c.pass-r.ensures.queue_after.0,
-      λ good. (n.ensures, drawn a.links.now a.pool.now c.pass-r.new.links a.f a.q c.pass-r.result a.out.now g.new.out n.result (a.q.from % BLOCK) n.ensures refl g.auto.out g.ensures c.pass-r.ensures.queue_after.1 c.pass-r.ensures.passes good),
+      c.pass.ensures.queue_after.0,
+      λ good. (n.ensures, drawn a.links.now a.pool.now c.pass.new.links a.f a.q c.pass.result a.out.now g.new.out n.result (a.q.from % BLOCK) n.ensures refl g.auto.out g.ensures c.pass.ensures.queue_after.1 c.pass.ensures.passes good),
     )

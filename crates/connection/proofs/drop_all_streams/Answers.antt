@@ -6,4 +6,4 @@ pub returns : goal.returns
 returns c =
     let a = c.args in
     let e = c.end_all-memory in
-    rw c.bare-answer.ensures (end-handles a.c a.table.now e.result e.new.table e.ensures a.reply)
+    rw c.bare.ensures (end-handles a.c a.table.now e.result e.new.table e.ensures a.reply)

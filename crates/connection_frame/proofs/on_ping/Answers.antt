@@ -5,5 +5,5 @@ use Rattle.connection_frame.proofs.on_ping.Goals as goal
 pub returns : goal.returns
 returns c =
     let a = c.args in
-    let f = c.find-found in
-    rw (c.pinged.ensures, c.on_ping-pong.ensures, c.is_found-in_table.ensures) (ping_handles a.c a.table.now a.header a.time f.result f.ensures)
+    let f = c.find in
+    rw (c.pinged.ensures, c.on_ping-pong.ensures, c.is_some-in_table.ensures) (ping_handles a.c a.table.now a.header a.time f.result f.ensures)

@@ -1,6 +1,5 @@
 -- `connection_read::read_row` meets its contract: nothing is read of an ended connection, else the step is taken. Assumes nothing.
-use mathlib.Core.Path.{sym, ◌∙◌}
-use lib.ListN.{length}
+use Rattle.std.proofs.Common.{sym, ◌∙◌, length}
 use Rattle.rules.specs.State.{entry}
 use Rattle.handlers.specs.Locals.{perform_read}
 use Rattle.connection_read.specs.Promises.{rule_of}
@@ -11,7 +10,7 @@ use Rattle.connection_read.proofs.read_row.Goals as goal
 pub returns-then-is_shut : goal.returns-then-is_shut
 returns-then-is_shut c h =
     let a = c.args in
-    rw c.nothing_read-answer.ensures
+    rw c.nothing_read.ensures
     (shut-reads a.c a.table.now a.links.now a.pool.now a.out.now a.slot.0 a.time (sym c.is_shut.ensures ∙ c.if-is_shut.true))
 
 pub take-requires : goal.take-requires

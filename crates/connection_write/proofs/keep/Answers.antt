@@ -1,5 +1,5 @@
 -- `connection_write::keep` meets its contract: the header is put, and the stream put back. Assumes nothing.
-use mathlib.Core.Path.{sym, ◌∙◌}
+use Rattle.std.proofs.Common.{sym, ◌∙◌}
 use Rattle.handlers.specs.Locals.{perform_step}
 use Rattle.rules.proofs.Lists.{never}
 use Rattle.connection.proofs.Promises.{acted}

@@ -1,5 +1,5 @@
 -- `memory::lay_out` meets its contract: all rows are blank and all blocks are free. Assumes nothing.
-use lib.ListN.{length}
+use Rattle.std.proofs.Common.{length}
 use Rattle.memory.proofs.Ends.{start-moves}
 use Rattle.memory.proofs.lay_out.Goals as goal
 

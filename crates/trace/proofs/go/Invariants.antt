@@ -6,7 +6,7 @@ use Rattle.trace.proofs.go.Given as goal
 
 abbrev pub invariant-loop-here : goal.invariant-loop-here
 invariant-loop-here l =
-    Standing l.initial.connection l.initial.table l.initial.links l.initial.pool l.initial.sent l.initial.bytes l.src l.initial.out l.initial.here l.allowance l.connection l.table l.links l.pool l.sent l.bytes l.out l.here.at l.here.applied l.here.put
+    Standing l.initial.connection l.initial.table l.initial.links l.initial.pool l.src l.initial.out l.initial.here l.allowance l.connection l.table l.links l.pool l.out l.here.at l.here.applied l.here.put
 
 abbrev pub decreases-loop-here : goal.decreases-loop-here
 decreases-loop-here l =

@@ -2,8 +2,9 @@
 use Rattle.trace.proofs.Showing.{shows}
 use Rattle.trace.proofs.show.Goals as goal
 
-pub returns-in-At-clause-stores : goal.returns-in-At-clause-stores
-returns-in-At-clause-stores c =
-    let k = c.line-written in
-    let e = rw (c.in-At.is, c.header_size-header.ensures.value, c.least-read.ensures, c.bytes_read-count.ensures) at k.ensures in
-    (shows c.args.kind c.args.answer c.args.sent.now c.args.bytes.now c.args.number c.args.out.now c.args.put _ c.requires.0 c.requires.1 c.requires.2 _ e k.auto.out).0
+pub returns : goal.returns
+returns c =
+    let k = c.line in
+    let e = rw (c.header_size-header.ensures.value, c.min-read.ensures, c.bytes_read-count.ensures) at k.ensures in
+    let w = shows c.args.kind c.args.answer c.args.sent.now c.args.bytes.now c.args.number c.args.out.now c.args.put _ c.told-sent c.told-bytes c.requires k.result (rw c.told-bytes e) k.auto.out in
+    rw c.unwrap_or.ensures (record { stores = w.0; upper_bound = w.1 })

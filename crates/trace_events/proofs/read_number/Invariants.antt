@@ -1,14 +1,12 @@
-use mathlib.Core.Path.{◌≡◌}
-use Prim.Native.Nat.{suc, ◌<◌}
+use Rattle.std.proofs.Common.{◌≡◌, ◌<◌, ◌+◌, ◌-◌, ◌^◌}
 use Rattle.trace_events.specs.Numbers.{groups, number_at}
-use Rattle.trace_events.proofs.Groups.{Weighs}
 use Rattle.trace_events.proofs.read_number.Given as goal
 
--- what is left to read is read by as many groups as are left and one more, and the sum is below the next group's weight
-abbrev pub invariant-loop-left : goal.invariant-loop-left
-invariant-loop-left l =
-    (groups (suc l.left) l.src l.p l.weight l.sum ≡ number_at l.src l.at) × (l.sum < l.weight) × Weighs l.weight l.left
-
--- the groups left
-abbrev pub decreases-loop-left : goal.decreases-loop-left
-decreases-loop-left l = l.left
+-- what is left to read is read by as many groups as are left, the next of them worth 128 ^ k, and the sum is below that
+abbrev pub invariant-loop-k : goal.invariant-loop-k
+invariant-loop-k l =
+    record {
+      rest : groups (10 - l.k) l.src (l.at + l.k) l.weight l.value ≡ number_at l.src l.at;
+      weighs : l.weight ≡ 128 ^ l.k;
+      below : l.value < l.weight;
+    }

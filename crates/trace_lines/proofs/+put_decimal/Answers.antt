@@ -1,7 +1,7 @@
 -- `trace_lines::put_decimal` meets its contract: the digits of n / 10 are stored, and one more after them. Assumes nothing.
 use Rattle.trace_lines.proofs.Stored.{stores_one, stores_then}
 use Rattle.trace_lines.proofs.Texts.{one_digit, digit_more, decimal-one, decimal_more}
-use native.Mathlib.Omega.{arith}
+use Rattle.std.proofs.Common.{arith}
 use Rattle.trace_lines.proofs.+put_decimal.Goals as goal
 
 pub bounds-out-at : goal.bounds-out-at

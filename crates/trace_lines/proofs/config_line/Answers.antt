@@ -1,9 +1,7 @@
 -- `trace_lines::config_line` meets its contract. Assumes nothing.
-use Prim.Native.Nat.{◌+◌, ◌≤◌}
+use Rattle.std.proofs.Common.{◌+◌, ◌≤◌, arith, length}
 use Rattle.trace_lines.specs.Line.{config_line}
 use Rattle.trace_lines.proofs.Stored.{stores_then, writes}
-use native.Mathlib.Omega.{arith}
-use lib.ListN.{length}
 use Rattle.trace_lines.proofs.config_line.Goals as goal
 
 pub returns : goal.returns
@@ -12,4 +10,4 @@ returns c =
     let a = c.args in
     let h : a.at + 100 ≤ length a.out.now = omega arith in
     writes 100 h (omega arith)
-    (stores_then c.put_text-said.ensures (rw c.wide.ensures at c.put_number.ensures.stores))
+    (stores_then c.put_text-said.ensures (rw c.from.ensures at c.put_number.ensures.stores))

@@ -1,9 +1,7 @@
 -- `trace_lines::line` meets its contract. Assumes nothing.
-use Prim.Native.Nat.{◌+◌, ◌≤◌}
+use Rattle.std.proofs.Common.{◌+◌, ◌≤◌, arith, length}
 use Rattle.trace_lines.specs.Writing.{line_room}
 use Rattle.trace_lines.proofs.Stored.{writes}
-use native.Mathlib.Omega.{arith}
-use lib.ListN.{length}
 use Rattle.trace_lines.proofs.line.Goals as goal
 
 pub returns : goal.returns

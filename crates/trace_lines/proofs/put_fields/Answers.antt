@@ -7,7 +7,7 @@ use Rattle.trace_lines.proofs.put_fields.Goals as goal
 pub returns-clause-stores : goal.returns-clause-stores
 unfolding line_of
 returns-clause-stores c =
-    let replied = rw (c.wide.ensures, c.number.ensures) at c.put_number-replied.ensures.stores in
+    let replied = rw (c.from-reply.ensures, c.from.ensures) at c.put_number-replied.ensures.stores in
     let slotted = rw c.slot_value-slot.ensures at c.put_value-slotted.ensures.stores in
     stores_then c.put_number-number.ensures.stores
     (stores_then replied

@@ -1,9 +1,7 @@
 -- `trace_lines::put_last` meets its contract. Assumes nothing.
-use Prim.Native.Nat.{◌+◌, ◌≤◌}
+use Rattle.std.proofs.Common.{◌+◌, ◌≤◌, arith, length}
 use Rattle.trace_lines.specs.Line.{last_of}
 use Rattle.trace_lines.proofs.Stored.{stores_then, writes}
-use native.Mathlib.Omega.{arith}
-use lib.ListN.{length}
 use Rattle.trace_lines.proofs.put_last.Goals as goal
 
 pub returns : goal.returns

@@ -1,7 +1,7 @@
 -- `trace_lines::put_number` meets its contract. Assumes nothing.
 use Rattle.trace_lines.proofs.Texts.{decimal-size}
 use Rattle.trace_lines.proofs.Stored.{stores_one, stores_then}
-use native.Mathlib.Omega.{arith}
+use Rattle.std.proofs.Common.{arith}
 use Rattle.trace_lines.proofs.put_number.Goals as goal
 
 pub put_decimal-p-requires : goal.put_decimal-p-requires

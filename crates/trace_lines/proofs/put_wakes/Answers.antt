@@ -1,12 +1,8 @@
 -- `trace_lines::put_wakes` meets its contract. Assumes nothing.
-use mathlib.Core.Path.{◌≡◌}
-use mathlib.Core.List.{[]}
-use Prim.Native.Nat.{◌<◌}
+use Rattle.std.proofs.Common.{◌≡◌, [], ◌<◌, arith, length}
 use Rattle.trace_lines.proofs.Stored.{stores_one, stores_at, stores_then}
 use Rattle.trace_lines.proofs.Texts.{marks-size, wakes-all, wakes-none, wakes-some, empty}
 use Rattle.trace_lines.specs.Line.{marks}
-use native.Mathlib.Omega.{arith}
-use lib.ListN.{length}
 use Rattle.trace_lines.proofs.put_wakes.Goals as goal
 
 pub returns-then-wakes-clause-stores : goal.returns-then-wakes-clause-stores

@@ -1,15 +1,16 @@
 -- `trace_play::finish` meets its contract: two writes, the second where the first did its work. Assumes nothing.
+use mathlib.Core.Path.{sym, ◌∙◌}
 use Rattle.trace_play.specs.Plays.{broken, last}
 use Rattle.trace_play.proofs.finish.Goals as goal
 
-pub returns-then-flushed : goal.returns-then-flushed
-returns-then-flushed g c =
-    let f = c.flush-flushed.ensures in
-    (f.0, broken f.1 c.if-flushed.true)
+pub returns-then-is_some : goal.returns-then-is_some
+returns-then-is_some g c =
+    let f = c.flush-flushed.ensures.flushes in
+    (f.0, broken f.1 (sym c.is_some.ensures ∙ c.if-is_some.true))
 
 pub returns : goal.returns
 returns g c =
-    let f = c.flush-flushed.ensures in
+    let f = c.flush-flushed.ensures.flushes in
     let k = c.last_line-put in
-    let x = c.flush-last.ensures in
-    (_, last k.result f.1 c.if-flushed.false (rw c.passed-byte.ensures at k.ensures.out_after) x.1)
+    let x = c.flush-last.ensures.flushes in
+    rw c.work.ensures (_, last k.result f.1 (sym c.is_some.ensures ∙ c.if-is_some.false) (rw c.passed.ensures at k.ensures.out_after) x.1)

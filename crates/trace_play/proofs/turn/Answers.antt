@@ -11,8 +11,8 @@ returns g c =
     let a = c.args in
     let p = c.requires in
     let k = c.run-report in
-    let r = rw c.place_of-place.ensures at k.ensures.runs in
+    let r = rw c.place_of.ensures at k.ensures.runs in
     let size = k.auto.out in
     let o = c.go_on in
     let e = rw c.after_run-next.ensures at o.ensures in
-    all (turned a.state a.table.now a.links.now a.pool.now a.sent.now a.bytes.now a.src.now a.out.now p.sound p.valid.0 p.valid.1 p.valid.2 p.not_done p.counted k.result _ _ _ _ size r o.result _ _ e.sound_after e.nears e.counted_after e.goes)
+    all (turned a.state a.table.now a.links.now a.pool.now a.sent.now a.bytes.now a.src.now a.out.now p.sound p.valid c.told-sent c.told-bytes p.not_done p.counted k.result _ _ _ _ size r o.result _ _ e.sound_after e.nears e.counted_after e.goes)

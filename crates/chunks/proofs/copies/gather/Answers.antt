@@ -1,9 +1,5 @@
 -- `chunks::copies::gather` meets its contract, by the invariant of its loop. Assumes nothing.
-use native.Mathlib.Omega.{arith}
-use Prim.Native.Nat.{◌+◌, ◌-◌, min, ◌≤◌, ◌<◌}
-use mathlib.Core.Path.{◌≡◌, ◌∙◌}
-use native.Mathlib.Nat.{le-add_right}
-use lib.ListN.{length}
+use Rattle.std.proofs.Common.{arith, ◌+◌, ◌-◌, min, ◌≤◌, ◌<◌, ◌≡◌, ◌∙◌, le-add_right, length}
 use lib.Seq.{length_front}
 use Rattle.chunks.specs.Blocks.{BLOCK}
 use Rattle.chunks.proofs.Parts.{part_length, length_mid}
@@ -13,8 +9,8 @@ use Rattle.chunks.proofs.copies.gather.Goals as goal
 pub loop-got-init : goal.loop-got-init
 loop-got-init c =
     let a = c.args in
-    let m = c.least-got.result in
-    let e : m ≡ min (BLOCK - a.from) (length a.out.now) = c.least-got.ensures in
+    let m = c.min-got.result in
+    let e : m ≡ min (length a.out.now) (BLOCK - a.from) = c.min-got.ensures in
     let d = c.drain in
     let starts : a.from < BLOCK = c.requires in (
       omega arith,

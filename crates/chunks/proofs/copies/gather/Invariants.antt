@@ -1,7 +1,5 @@
 -- The first `got` bytes of out are the chain's, and `last` is the last block that they were in; the measure is how many are left. Assumes nothing.
-use Prim.Native.Nat.{◌+◌, ◌-◌, ◌≤◌}
-use mathlib.Core.Path.{◌≡◌}
-use lib.ListN.{length}
+use Rattle.std.proofs.Common.{◌+◌, ◌-◌, ◌≤◌, ◌≡◌, length}
 use Rattle.chunks.specs.Steps.{Gathers}
 use Rattle.chunks.proofs.Pieces.{Stands}
 use Rattle.chunks.proofs.copies.gather.Given as goal

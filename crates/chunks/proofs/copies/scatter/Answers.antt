@@ -1,41 +1,22 @@
 -- `chunks::copies::scatter` meets its contract, by the invariant of its loop. Assumes nothing.
-use native.Mathlib.Omega.{arith}
-use Prim.Native.Nat.{ℕ, ◌+◌, ◌-◌, min, ◌≤◌, ◌<◌}
-use mathlib.Core.Path.{◌≡◌, ap, subst, ◌∙◌}
-use mathlib.Core.List.{List}
-use native.Mathlib.Nat.{le_antisymm}
-use lib.ListN.{length, take}
-use lib.Seq.{length-take-le, take-length}
-use Rattle.chunks.specs.Blocks.{BLOCK}
-use Rattle.chunks.specs.Steps.{Scatters}
-use Rattle.chunks.proofs.Pieces.{stands_on, scatter_first, scatter_next}
+use Rattle.std.proofs.Common.{rules, tests}
+use Rattle.chunks.proofs.Pieces.{written_first, written_next, written_all}
 use Rattle.chunks.proofs.copies.scatter.Goals as goal
 
-pub loop-done-preserved : goal.loop-done-preserved
-loop-done-preserved c =
+pub loop-rest-init : goal.loop-rest-init
+loop-rest-init c =
     let a = c.args in
-    let v = c.loop-done in
-    let p = c.piece_at-p in
-    let k = c.link-node in
-    let f = c.fill-in-loop-done in
-    let n = length a.body.now in
-    let l : v.done + p.result.len ≤ n = omega (arith, p.ensures.most, v.invariant.0) in (
-      l,
-      f.auto.pool ∙ v.invariant.1,
-      stands_on a.links.now a.at a.used v.done n v.last k.result p.result v.invariant.2 k.ensures p.ensures,
-      λ x h w. scatter_next a.links.now x v.pool f.new.pool a.at a.used v.done (n - v.done) v.last k.result p.result a.body.now v.invariant.2 k.ensures p.ensures l (v.invariant.1 ∙ h) (v.invariant.3 x h w) f.ensures,
-    )
+    let s = c.split_at in
+    written_first a.links.now a.pool.now c.fill.new.pool a.at a.used c.min.result a.body.now s.result.0.now s.result.1.now c.requires c.min.ensures s.ensures.front s.ensures.back c.fill.auto.pool c.fill.ensures
 
-pub returns-clause-scatters : goal.returns-clause-scatters
-returns-clause-scatters c =
+pub loop-rest-preserved : goal.loop-rest-preserved
+loop-rest-preserved c =
     let a = c.args in
-    let v = c.loop-done in
-    let m = c.least-done.result in
-    let t : m ≡ min (BLOCK - a.used) (length a.body.now) = c.least-done.ensures in
-    let f = c.fill in
-    let e : v.done ≡ length a.body.now = le_antisymm v.invariant.0 c.loop-done-test.false in
-    let b : take v.done a.body.now ≡ a.body.now = ap (λ (k : ℕ). take k a.body.now) e ∙ take-length a.body.now in
-    let starts : a.used < BLOCK = c.requires in
-    let s : length (take m a.body.now) ≡ m = length-take-le m a.body.now (omega arith) in
-    subst (λ (x : List ℕ). Scatters a.links.now a.pool.now a.at a.used (a.used + length a.body.now) x v.pool) b
-    (v.invariant.3 a.pool.now f.auto.pool (scatter_first a.links.now a.pool.now f.new.pool a.at a.used (a.used + length a.body.now) (take m a.body.now) starts (omega arith) (omega arith) f.ensures))
+    let s = c.split_at-in-loop-rest in
+    let f = c.fill-in-loop-rest in
+    written_next a.links.now a.pool.now c.loop-rest.pool f.new.pool a.at a.used c.loop-rest.last c.link-node.result c.piece_at-p.result a.body.now c.loop-rest.rest.now s.result.0.now s.result.1.now c.loop-rest.invariant c.link-node.ensures c.piece_at-p.ensures s.ensures.front s.ensures.back f.auto.pool f.ensures
+
+pub returns : goal.returns
+returns c =
+    let r = written_all _ _ _ _ _ _ _ _ c.loop-rest.invariant (search (rules, tests)) in
+    record { value = r.0; scatters = r.1 }

@@ -1,18 +1,10 @@
--- The first `done` bytes of the body are in the chain's blocks, and `last` is the last of these; the measure is how many are left. Assumes nothing.
-use Prim.Native.Nat.{ℕ, ◌+◌, ◌-◌, ◌≤◌}
-use mathlib.Core.Path.{◌≡◌}
-use mathlib.Core.List.{List}
-use lib.ListN.{length, take}
-use Rattle.chunks.specs.Steps.{Scatters}
-use Rattle.chunks.proofs.Pieces.{Stands}
+-- The body up to `rest` is in the chain's blocks, and `last` is the last of these; the measure is how many bytes are left. Assumes nothing.
+use Rattle.std.proofs.Common.{length}
+use Rattle.chunks.proofs.Pieces.{Written}
 use Rattle.chunks.proofs.copies.scatter.Given as goal
 
-abbrev pub invariant-loop-done : goal.invariant-loop-done
-invariant-loop-done l =
-    (l.done ≤ l.n)
-    × (length l.pool ≡ length l.initial.pool)
-    × Stands l.links l.at (l.used + l.done) (l.n - l.done) l.last
-    × ((p : List ℕ) → length l.initial.pool ≡ length p → Scatters l.links p l.at l.used (l.used + length l.body) (take l.initial.done l.body) l.initial.pool → Scatters l.links p l.at l.used (l.used + length l.body) (take l.done l.body) l.pool)
+abbrev pub invariant-loop-rest : goal.invariant-loop-rest
+invariant-loop-rest l = Written l.links l.fn.pool l.at l.used l.body l.rest l.last l.pool
 
-abbrev pub decreases-loop-done : goal.decreases-loop-done
-decreases-loop-done l = l.n - l.done
+abbrev pub decreases-loop-rest : goal.decreases-loop-rest
+decreases-loop-rest l = length l.rest

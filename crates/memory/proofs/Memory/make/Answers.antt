@@ -1,6 +1,5 @@
 -- `memory::Memory::make` meets its contract: a free slot has no queue, so the body is pushed to the empty one. Assumes nothing.
-use mathlib.Core.Bool.{true}
-use mathlib.Core.Path.{refl, subst}
+use Rattle.std.proofs.Common.{true, refl, subst}
 use Rattle.chunks.specs.Store.{Pushes}
 use Rattle.chunks.specs.declared.Queue.{Queue}
 use Rattle.table.specs.Table.{row_at}

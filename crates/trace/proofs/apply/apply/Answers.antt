@@ -1,8 +1,7 @@
 -- `trace::apply::apply` meets its contract: each event's call promises the rules' step. Assumes nothing.
-use mathlib.Core.Path.{subst}
+use Rattle.std.proofs.Common.{subst, arith}
 use Rattle.trace_events.specs.Calls.{Lies}
 use Rattle.trace.proofs.Applying.{tick-applies, frame-applies, open-applies, read-applies, write-applies, close-applies, drop-applies, gone-applies}
-use native.Mathlib.Omega.{arith}
 use Rattle.trace.proofs.apply.apply.Goals as goal
 
 pub returns-in-Tick : goal.returns-in-Tick
@@ -29,28 +28,28 @@ returns-in-Read c =
     let a = c.args in
     let k = c.read in
     let h = subst (Lies _) c.in-Read.is c.requires.0 in
-    let e = rw c.slot_of-handle.ensures at k.ensures in
-    read-applies a.c a.table.now a.links.now a.pool.now a.sent.now a.src.now a.event k.result _ _ a.bytes.now _ _ _ _ c.in-Read.is h c.requires.2 e.promised e.outputs
+    let e = rw c.slot_of.ensures at k.ensures in
+    read-applies a.c a.table.now a.links.now a.pool.now a.sent.now a.src.now a.event k.result _ _ a.bytes.now _ _ _ _ c.in-Read.is h c.told-bytes e.promised e.outputs
 
 pub returns-in-Write : goal.returns-in-Write
 returns-in-Write c =
     let a = c.args in
     let k = c.write in
-    let e = rw c.slot_of-handle-in-Write.ensures at (k.ensures.by_index a.links.now a.pool.now) in
+    let e = rw c.slot_of-in-Write.ensures at (k.ensures.by_index a.links.now a.pool.now) in
     write-applies a.c a.table.now a.links.now a.pool.now a.sent.now a.src.now a.event k.result _ _ _ _ _ _ _ c.in-Write.is e k.ensures.gives.header
 
 pub returns-in-Close : goal.returns-in-Close
 returns-in-Close c =
     let a = c.args in
     let k = c.close in
-    let e = rw c.slot_of-handle-in-Close.ensures at (k.ensures.by_index a.links.now a.pool.now) in
+    let e = rw c.slot_of-in-Close.ensures at (k.ensures.by_index a.links.now a.pool.now) in
     close-applies a.c a.table.now a.links.now a.pool.now a.sent.now a.src.now a.event k.result _ _ _ _ _ _ c.in-Close.is e k.ensures.gives.header
 
 pub returns-in-Drop : goal.returns-in-Drop
 returns-in-Drop c =
     let a = c.args in
     let k = c.on_drop_stream in
-    let e = rw c.slot_of-handle-in-Drop.ensures at (k.ensures.by_index a.pool.now) in
+    let e = rw c.slot_of-in-Drop.ensures at (k.ensures.by_index a.pool.now) in
     drop-applies a.c a.table.now a.links.now a.pool.now a.sent.now a.src.now a.event k.result _ _ _ _ _ _ c.in-Drop.is e k.ensures.gives.header
 
 pub returns-in-Gone : goal.returns-in-Gone
