@@ -40,6 +40,7 @@ fn remove(memory: Memory, table: &mut [u64], slot: Slot, found: Option<Slot>) ->
 }
 
 // Drops a handle that is held. `row` is what its slot holds.
+// Two slices: a struct of them owes names, lengths and untouched fields in each contract, and is no plainer.
 fn release(c: Connection, table: &mut [u64], links: &mut [u32], slot: Slot, row: Row) -> Done
     ensures { Releases c table.old links.old slot row result table.new links.new }
 {

@@ -1,15 +1,7 @@
 -- How each call comes to the promise of its event: the sizes are right in a valid state, a slot above every K is not held, and
 -- only a read gives bytes. Assumes nothing.
-use Rattle.std.specs.Prelude.{Option}
-use mathlib.Core.Path.{◌≡◌, refl, sym, ap, subst, ◌∙◌}
-use mathlib.Core.Bool.{Bool, true, false, cond}
-use mathlib.Core.List.{List, ◌++◌, append_assoc}
-use Prim.Native.Nat.{ℕ, ◌+◌, ◌-◌, ◌≤◌, ◌<◌}
-use native.Mathlib.Omega.{arith}
-use lib.Dec.{ltb}
-use lib.ListN.{length, take, drop, length-drop}
-use lib.Seq.{length-take-le, take-append_seam}
-use borrow.Author.Tests.{eq-eqb, ltb-true}
+use Rattle.std.proofs.Common.{Option, ◌≡◌, refl, sym, ap, subst, ◌∙◌, Bool, true, false, cond, List, ◌++◌, append_assoc, ℕ, ◌+◌, ◌-◌, ◌≤◌, ◌<◌, arith, ltb, length, take, drop, length-drop, length-take-le, eq-eqb, ltb-true}
+use lib.Seq.{take-append_seam}
 use Rattle.rules.specs.State.{Conn, entry, vacant}
 use Rattle.rules.specs.Ending.{Effect, refuse}
 use Rattle.rules.specs.Step.{Call, step, timed, holding}

@@ -1,7 +1,6 @@
 -- Settings as bytes, in the order in which they are read, and what is printed for them: each number is that of the setting that is wrong.
 -- Assumes nothing.
-use mathlib.Core.Path.{◌≡◌, refl}
-use mathlib.Core.List.{[], ◌∷◌}
+use Rattle.std.proofs.Common.{◌≡◌, refl, [], ◌∷◌}
 use Rattle.trace_events.specs.Numbers.{groups, number_at}
 use Rattle.trace_events.specs.Format.{settings_at}
 use Rattle.trace_lines.specs.Line.{bad_line, config_line}

@@ -1,19 +1,11 @@
 -- Runs one after another: however a trace is cut, and whatever room there is each time, the lines, the count, the place and
 -- the state are those of one run over the whole. Assumes nothing.
-use mathlib.Core.Path.{◌≡◌, refl, sym, ap, subst, ◌∙◌}
-use mathlib.Core.Logic.{inl, inr}
-use mathlib.Core.Bool.{Bool, true, false, cond}
-use mathlib.Core.List.{List, [], ◌∷◌, ◌++◌, append_assoc, append-nil}
-use Prim.Native.Nat.{ℕ, zero, suc, ◌+◌, ◌-◌, ◌≤◌, ◌<◌}
-use native.Mathlib.Nat.{add-zero}
-use native.Mathlib.Omega.{arith}
-use lib.ListN.{length, drop, length-append}
-use lib.Seq.{drop-append-le}
+use Rattle.std.proofs.Common.{◌≡◌, refl, sym, ap, subst, ◌∙◌, inl, inr, Bool, true, false, cond, List, [], ◌∷◌, ◌++◌, append_assoc, append-nil, ℕ, zero, suc, ◌+◌, ◌-◌, ◌≤◌, ◌<◌, add-zero, arith, length, drop, length-append, Ok, Err}
+use Rattle.std.proofs.lemmas.List.{drop-append-le}
 use Rattle.rules.specs.State.{Conn}
 use Rattle.rules.specs.Step.{Call, step}
 use Rattle.trace_events.specs.Format.{event_at}
 use Rattle.trace_events.specs.Calls.{Found, call, short, bad, found_in, call_at, later, longest, Within}
-use Rattle.std.specs.Prelude.{Ok, Err}
 use Rattle.trace_events.specs.Numbers.{Reading}
 use Rattle.trace_events.specs.declared.Event.{Event}
 use Rattle.trace_events.specs.declared.Unreadable.TheVariants.{Short, Bad}

@@ -1,19 +1,11 @@
 -- What is still printed: after the settings, after a run over a part of the input, and where a run was the last. Assumes nothing.
-use mathlib.Core.Path.{◌≡◌, refl, sym, ap, subst, ◌∙◌}
-use mathlib.Core.Logic.{inl, inr}
-use mathlib.Core.Bool.{Bool, true, false, cond}
-use mathlib.Core.List.{List, ◌++◌, append_assoc, append-nil}
-use Prim.Native.Nat.{ℕ, zero, suc, ◌+◌, ◌-◌, ◌≤◌}
-use native.Mathlib.Nat.{add-zero, add_assoc}
-use native.Mathlib.Omega.{arith}
-use lib.ListN.{length, drop, length-append, length-drop}
-use lib.Seq.{drop-append-le}
+use Rattle.std.proofs.Common.{◌≡◌, refl, sym, ap, subst, ◌∙◌, inl, inr, Bool, true, false, cond, List, ◌++◌, append_assoc, append-nil, ℕ, zero, suc, ◌+◌, ◌-◌, ◌≤◌, add-zero, add_assoc, arith, length, drop, length-append, length-drop, Result, Ok, Err}
+use Rattle.std.proofs.lemmas.List.{drop-append-le}
 use Rattle.rules.specs.Settings.{checked_within}
 use Rattle.rules.specs.State.{Conn, initial}
 use Rattle.rules.specs.Step.{step}
 use Rattle.rules.specs.declared.Settings.{Settings}
 use Rattle.rules.specs.declared.Config.{Config}
-use Rattle.std.specs.Prelude.{Result, Ok, Err}
 use Rattle.trace_events.specs.Numbers.{Reading}
 use Rattle.trace_events.specs.Format.{settings_at}
 use Rattle.trace_events.specs.Calls.{Found, call, short, bad, call_at, Spans, PreambleIn}

@@ -1,13 +1,6 @@
 -- A run, event by event: what was reached, and what is left of the definition's run. Assumes nothing.
-use mathlib.Core.Path.{◌≡◌, refl, sym, ap, subst, ◌∙◌}
-use mathlib.Core.Bool.{Bool, true}
-use mathlib.Core.Logic.{inl, inr}
-use mathlib.Core.List.{List, [], ◌++◌, append_assoc, append-nil}
-use Prim.Native.Nat.{ℕ, suc, ◌+◌, ◌-◌, ◌≤◌, ◌<◌}
-use native.Mathlib.Nat.{add-zero}
-use native.Mathlib.Omega.{arith}
-use lib.ListN.{length, length-append}
-use lib.Seq.{sets}
+use Rattle.std.proofs.Common.{◌≡◌, refl, sym, ap, subst, ◌∙◌, Bool, true, inr, List, [], ◌++◌, append_assoc, append-nil, ℕ, suc, ◌+◌, ◌-◌, ◌≤◌, ◌<◌, add-zero, arith, length, length-append}
+use Rattle.std.proofs.lemmas.List.Edits.{sets}
 use Rattle.rules.proofs.Lists.{never}
 use Rattle.connection.specs.Abstract.{abs_of, Valid}
 use Rattle.connection.specs.declared.Connection.{Connection}
@@ -40,28 +33,6 @@ pub record Standing (c : Connection) (t l p s o : List ℕ) (place : Place) (all
   pub reached : Valid c t l p → Reached c t l p s o place allowance d t' l' p' o' at applied put
 
 module _ (c : Connection) (t l p s o : List ℕ) (place : Place) (allowance : ℕ) where
-  begun : Valid c t l p → Reached c t l p s o place allowance c t l p o place.at place.applied place.put
-  begun v = record {
-    lines = [];
-    count = 0;
-    valid = v;
-    left = resumed-none (runs_from c t l p s o place allowance);
-    applies = sym (add-zero place.applied);
-    puts = sym (add-zero place.put);
-    out = refl;
-  }
-
-  unmoved : Bounds s o place allowance place.at place.applied place.put
-  unmoved = record {
-    counted = omega arith;
-    forward = omega arith;
-    reach = omega arith;
-    inside = λ h. h;
-    written = omega arith;
-    room = λ h. h;
-    moved = inl (refl, refl, refl);
-  }
-
   module _ (d : Connection) (t' l' p' o' : List ℕ) (at applied put : ℕ) where
     -- where the definition's run stops, so does the code's
     ended : (why : Stop) → runs_from d t' l' p' s o' (record { at = at; applied = applied; put = put }) allowance ≡ stopped (abs_of d t' l' p') at why

@@ -1,6 +1,6 @@
 -- With room for the longest line a line is written, inside the room. Assumes nothing.
-use Rattle.std.proofs.Common.{Option, Some, None, unwrap_or, ◌≡◌, sym, ap, subst, ◌∙◌, List, append_assoc, ℕ, ◌+◌, ◌-◌, ◌≤◌, min, arith, length, take, drop, length-append, length-take, length-drop}
-use lib.Seq.{sets-eq, length-take-le}
+use Rattle.std.proofs.Common.{Option, Some, None, unwrap_or, ◌≡◌, sym, ap, subst, ◌∙◌, List, append_assoc, ℕ, ◌+◌, ◌-◌, ◌≤◌, min, arith, length, take, drop, length-append, length-take, length-drop, length-take-le}
+use Rattle.std.proofs.lemmas.List.Edits.{sets-eq}
 use Rattle.handlers.specs.declared.Answer.{Answer}
 use Rattle.trace_events.specs.declared.Kind.{Kind}
 use Rattle.trace_lines.specs.Writing.{Stores, Writes, placed, line_room, longest_line}

@@ -1,11 +1,5 @@
 -- Only a read gives bytes, and neither an open nor a peer gone gives a header. Assumes nothing.
-use Rattle.std.specs.Prelude.{Option, Some, None, Result, Ok, Err}
-use mathlib.Core.Path.{◌≡◌, refl}
-use mathlib.Core.Bool.{true}
-use mathlib.Core.List.{List, []}
-use Prim.Native.Nat.{ℕ, ◌+◌}
-use lib.Dec.{eqb, ltb, leb}
-use lib.ListN.{length}
+use Rattle.std.proofs.Common.{Option, Some, None, Result, Ok, Err, ◌≡◌, refl, true, List, [], ℕ, ◌+◌, eqb, ltb, leb, length}
 use Rattle.frame.specs.Header.{contains, syn, ack, rst, protocol_error, internal_error, initial_window}
 use Rattle.frame.specs.Wire.{decoded}
 use Rattle.frame.specs.declared.header.HeaderDecodeError.{HeaderDecodeError}

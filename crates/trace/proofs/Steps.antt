@@ -1,10 +1,5 @@
 -- A run's count, state and lines are those of the rules' run over the calls read. Assumes nothing.
-use mathlib.Core.Path.{◌≡◌, refl, sym, ap, subst, ◌∙◌}
-use mathlib.Core.Bool.{Bool, true, false, cond}
-use mathlib.Core.List.{List, ◌∷◌, ◌++◌}
-use Prim.Native.Nat.{ℕ, zero, suc, ◌+◌}
-use native.Mathlib.Numerals.{add-one}
-use lib.ListN.{length}
+use Rattle.std.proofs.Common.{◌≡◌, refl, sym, ap, subst, ◌∙◌, Bool, true, false, cond, List, ◌∷◌, ◌++◌, ℕ, zero, suc, ◌+◌, add-one, length}
 use Rattle.rules.specs.State.{Conn}
 use Rattle.rules.specs.Step.{Call, step, run}
 use Rattle.trace_events.specs.Calls.{Found, call, short, bad, call_at}

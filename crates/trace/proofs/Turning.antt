@@ -1,13 +1,5 @@
 -- One event: where it is not applied a run stops, and where it is, a run goes on after its line. Assumes nothing.
-use Rattle.std.specs.Prelude.{Option, Some, None}
-use mathlib.Core.Path.{◌≡◌, refl, sym, ap, ◌∙◌}
-use mathlib.Core.List.{List}
-use Prim.Native.Nat.{ℕ, suc, ◌+◌, ◌-◌, ◌≤◌, ◌<◌, min}
-use native.Mathlib.Omega.{arith}
-use lib.ListN.{length, take, length-take}
-use lib.Seq.{take_all}
-use borrow.Author.Tests.{eq-eqb, lt-ltb, le-ltb}
-use Rattle.std.specs.Prelude.{Ok, Err}
+use Rattle.std.proofs.Common.{Option, Some, None, ◌≡◌, refl, sym, ap, ◌∙◌, List, ℕ, suc, ◌+◌, ◌-◌, ◌≤◌, ◌<◌, min, arith, length, take, length-take, take_all, eq-eqb, lt-ltb, le-ltb, Ok, Err}
 use Rattle.frame.proofs.Wire.{length-wire}
 use Rattle.frame.specs.Wire.{wire}
 use Rattle.rules.specs.Replies.{Outcome}

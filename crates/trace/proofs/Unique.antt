@@ -1,8 +1,5 @@
 -- Two answers that meet one run's promise are the same. Assumes nothing.
-use mathlib.Core.Path.{sym, ◌∙◌}
-use mathlib.Core.Bool.{Bool}
-use mathlib.Core.List.{List}
-use Prim.Native.Nat.{ℕ}
+use Rattle.std.proofs.Common.{sym, ◌∙◌, Bool, List, ℕ}
 use Rattle.connection.specs.declared.Connection.{Connection}
 use Rattle.trace.specs.Runs.{Traced}
 use Rattle.trace.specs.Turns.{RanAs, Runs, runs_from}

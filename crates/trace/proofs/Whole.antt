@@ -1,15 +1,7 @@
 -- What is printed for a whole input, from its first part on: the first hundred bytes decide its settings, and whatever parts follow,
 -- its lines and its last line are those of the runs over them. Assumes nothing.
-use mathlib.Core.Path.{◌≡◌, refl, sym, ap, subst, ◌∙◌}
-use mathlib.Core.Logic.{inl, inr}
-use mathlib.Core.List.{List, [], ◌∷◌, ◌++◌, append-nil}
-use Prim.Native.Nat.{ℕ, zero, suc, ◌+◌, ◌-◌, ◌≤◌, ◌<◌}
-use native.Mathlib.Nat.{add-zero}
-use native.Mathlib.Omega.{arith}
-use lib.ListN.{length, drop, length-append}
-use lib.Seq.{drop-append-le}
-use borrow.Author.Tests.{lt-ltb}
-use Rattle.std.specs.Prelude.{Ok, Err}
+use Rattle.std.proofs.Common.{◌≡◌, refl, sym, ap, subst, ◌∙◌, inl, inr, List, [], ◌∷◌, ◌++◌, append-nil, ℕ, zero, suc, ◌+◌, ◌-◌, ◌≤◌, ◌<◌, add-zero, arith, length, drop, length-append, lt-ltb, Ok, Err}
+use Rattle.std.proofs.lemmas.List.{drop-append-le}
 use Rattle.rules.proofs.Lists.{either}
 use Rattle.rules.specs.Settings.{holds, setting_number, checked_within, FirstWrong}
 use Rattle.rules.specs.State.{Conn, initial}

@@ -9,7 +9,7 @@ use frame::header::HEADER_SIZE;
 use rules::Slot;
 use trace_events::{Event, Kind};
 
-// The slot of this number, or one that no connection has.
+// The slot of this number, or one that no connection has: no None, for the calls take a slot, and answer 9 for that one.
 fn slot_of(n: u64) -> Slot
     ensures { result.0 ≡ slot_of n }
 {

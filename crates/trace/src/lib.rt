@@ -97,9 +97,9 @@ fn show(
     ensures stores { Stores out.old put (shown_line number kind answer sent.now bytes.now) out.new result }
     ensures upper_bound { result ≤ length out.old }
 {
-    let header = header_size(answer.sent);
-    let count = apply::bytes_read(kind, answer.value);
-    let read = (count as usize).min(bytes.len());
+    let header = &sent[..header_size(answer.sent)];
+    let count = apply::bytes_read(kind, answer.value) as usize;
+    let read = &bytes[..count.min(bytes.len())];
     let shown = Shown {
         number,
         reply: answer.reply,
@@ -107,7 +107,7 @@ fn show(
         value: answer.value,
         wakes: answer.wakes,
     };
-    trace_lines::line(out, put, shown, &sent[..header], &bytes[..read]).unwrap_or(put)
+    trace_lines::line(out, put, shown, header, read).unwrap_or(put)
 }
 
 // Applies the event at a place and writes its line: the connection after it, and where the run stands then; or why the event was
@@ -179,8 +179,7 @@ fn go(
     let mut connection = c;
     let mut here = place;
     while here.applied < allowance {
-        let turned = turn(connection, table, links, pool, sent, bytes, src, out, here);
-        match turned {
+        match turn(connection, table, links, pool, sent, bytes, src, out, here) {
             Err(stop) => return stopped(connection, here, stop),
             Ok((after, next)) => {
                 connection = after;
@@ -208,15 +207,14 @@ pub fn run(
     ensures runs { Runs (sized c (length table.old) (length links.old) (length pool.old) (length sent.old) (length bytes.old)) c table.old links.old pool.old src.now out.old place allowance result table.new links.new pool.new out.new }
     ensures untouched { Untouched (sized c (length table.old) (length links.old) (length pool.old) (length sent.old) (length bytes.old)) sent.old bytes.old sent.new bytes.new }
 {
-    let right = sized(
+    if !sized(
         c,
         table.len(),
         links.len(),
         pool.len(),
         sent.len(),
         bytes.len(),
-    );
-    if !right {
+    ) {
         return stopped(c, place, Stop::Size);
     }
     let (Some(sent), Some(bytes)) = (sent.as_mut_array(), bytes.as_mut_array()) else {

@@ -106,3 +106,6 @@ module _ (w : Woke) where
 
   pub wakes-some : w.all ≡ false → 0 < length (marks w) → wakes_text w ≡ marks w
   wakes-some e h = wakes-by false e ∙ dash_some (marks w) h
+
+-- how long each text can be
+pub ruleset lengths = (decimal-size, hex-size, marks-size)

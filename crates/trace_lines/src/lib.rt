@@ -63,7 +63,7 @@ fn put_text(out: &mut [u8], at: usize, text: &[u8]) -> usize
     end
 }
 
-// The digits of a number, the high ones first.
+// The digits of a number, the high ones first. By hand: nothing may allocate, and std says which bytes a `write!` gives for a String alone.
 fn put_decimal(out: &mut [u8], at: usize, n: u64) -> usize
     requires { Room out.old at (decimal n) }
     ensures { Stores out.old at (decimal n) out.new result }
@@ -95,6 +95,7 @@ fn put_dash(out: &mut [u8], at: usize, end: u8) -> usize
     put_two(out, at, DASH, end)
 }
 
+#[tactic(auto, using(crate::proofs::Texts::lengths))]
 fn put_number(out: &mut [u8], at: usize, n: u64, end: u8) -> usize
     requires { at + 21 ≤ length out.old }
     ensures stores { Stores out.old at (field (decimal n) end) out.new result }
@@ -125,6 +126,7 @@ fn put_value(out: &mut [u8], at: usize, value: Option<u32>) -> usize
 }
 
 // Bytes in hex.
+#[tactic(auto, using(crate::proofs::Texts::lengths))]
 fn put_bytes(out: &mut [u8], at: usize, bytes: &[u8], end: u8) -> usize
     requires { at + 2 * length bytes.now + 2 ≤ length out.old }
     ensures stores { Stores out.old at (field (or_dash (hex bytes.now)) end) out.new result }
@@ -159,6 +161,7 @@ fn put_marks(out: &mut [u8], at: usize, wakes: Woke) -> usize
     put_mark(out, writer, wakes.opener, b'o')
 }
 
+#[tactic(auto, using(crate::proofs::Texts::lengths))]
 fn put_wakes(out: &mut [u8], at: usize, wakes: Woke) -> usize
     requires { at + 4 ≤ length out.old }
     ensures stores { Stores out.old at (field (wakes_text wakes) 32) out.new result }
@@ -224,6 +227,7 @@ fn put_last(out: &mut [u8], at: usize, word: &[u8], a: u64, b: u64) -> Option<us
     Some(put_number(out, first, b, NEWLINE))
 }
 
+// `end_line` and `bad_line` differ in a word, and keep their names: they are two lines of the document, which docs/REFERENCE.md names.
 // The last line: the events applied and the growth figure.
 pub fn end_line(out: &mut [u8], at: usize, events: u64, growth: u64) -> Option<usize>
     ensures { Writes last_room out.old at (end_line events growth) out.new result }
@@ -238,7 +242,7 @@ pub fn bad_line(out: &mut [u8], at: usize, events: u64, byte: u64) -> Option<usi
     put_last(out, at, b"bad ", events, byte)
 }
 
-// The only line where the settings are refused: the number of the reply.
+// The only line where the settings are refused: the number of the reply. A number, since a setting's and a reply's are of two enums.
 pub fn config_line(out: &mut [u8], at: usize, number: u32) -> Option<usize>
     ensures { Writes last_room out.old at (config_line number) out.new result }
 {

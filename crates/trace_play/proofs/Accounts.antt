@@ -1,24 +1,16 @@
 -- All that is printed for the bytes that reads brought is what was put to be written: of every turn, and of the whole. Assumes nothing.
-use mathlib.Core.Path.{◌≡◌, refl, sym, ap, subst, ◌∙◌}
-use mathlib.Core.Bool.{Bool, true, false}
-use mathlib.Core.Logic.{inl, inr}
-use mathlib.Core.List.{List, [], ◌++◌, append_assoc, append-nil}
-use Prim.Native.Nat.{ℕ, ◌+◌, ◌-◌, ◌≤◌}
-use native.Mathlib.Nat.{add-zero, zero-add}
-use native.Mathlib.Omega.{arith}
-use lib.ListN.{length, take, drop, length-append, take-append-drop}
-use lib.Seq.{sets-eq, length-sets, length-take-le, take-append_seam, take-take}
-use borrow.Author.Tests.{le-leb}
+use Rattle.std.proofs.Common.{◌≡◌, refl, sym, ap, subst, ◌∙◌, Bool, true, false, inl, inr, List, [], ◌++◌, append_assoc, append-nil, ℕ, ◌+◌, ◌-◌, ◌≤◌, add-zero, zero-add, arith, length, take, drop, length-append, length-drop, take-append-drop, length-take-le, take-take, le-leb, Option, Some, None, Result, Ok, Err, is_ok}
+use Rattle.std.proofs.lemmas.List.Edits.{sets-eq}
+use lib.Seq.{length-sets, take-append_seam}
 use Rattle.chunks.proofs.Parts.{drop-take}
 use Rattle.rules.proofs.Lists.{never}
-use Rattle.std.specs.Prelude.{Option, Some, None, Result, Ok, Err, ⊤, is_ok}
+use Rattle.std.specs.Prelude.{⊤}
 use Rattle.std.specs.declared.io.Error.{Error}
 use Rattle.rules.specs.State.{Conn}
 use Rattle.rules.specs.Settings.{checked_within}
 use Rattle.rules.specs.declared.Settings.{Settings}
 use Rattle.connection.specs.Abstract.{abs_of, Valid}
 use Rattle.trace.specs.Runs.{Traced, only}
-use Rattle.std.specs.Prelude.{Result, Ok, Err}
 use Rattle.trace.specs.Output.{most, judged_as, begun_as, last_line, allowance, output, remaining, IsLast}
 use Rattle.trace.specs.Turns.{Runs, RanAs, runs_from}
 use Rattle.trace.specs.declared.Stop.{Stop}
@@ -42,9 +34,12 @@ use Rattle.filter.specs.declared.Fault.TheVariants.{Unwritten}
 use Rattle.trace_play.specs.Places.{next_task, place_of, after_run, moved, passed, fed_on}
 use Rattle.trace_play.specs.Plays.{Wrote, Took, putting, over, Closed, broken, last, GoesOn, Lent, lent, Played, Plays, none, more, Performed, unread, unreached, played, is_ended, Lasts}
 use Rattle.trace_play.specs.declared.State.{State}
-use Rattle.trace_play.proofs.Nearing.{kept-length}
 use Rattle.rules.specs.declared.Config.{Config}
 use Rattle.rules.specs.declared.Setting.{Setting}
+
+-- as many bytes are kept as were not taken
+kept-length : (s : List ℕ) (from to : ℕ) → from ≤ to → to ≤ length s → length (kept s from to) ≡ to - from
+kept-length s from to h k = rw (le-leb to (length s) k) (length-take-le (to - from) (drop from s) (rw (length-drop from s) (omega arith)))
 
 -- the state that is reached
 abbrev conn : State → Lent → Conn

@@ -1,32 +1,17 @@
 -- Settings that a trace may have ask for no more than the program has, and make a connection. Assumes nothing.
-use Rattle.std.specs.Prelude.{Ok, Result, Err}
-use mathlib.Core.Path.{◌≡◌, refl, sym, ap, subst, ◌∙◌}
-use mathlib.Core.Bool.{true}
-use mathlib.Core.List.{List, ◌++◌}
-use Prim.Native.Nat.{ℕ, ◌*◌, ◌≤◌}
-use native.Mathlib.Omega.{arith}
-use lib.Dec.{leb}
-use lib.ListN.{length, take}
-use lib.Seq.{length-take-le, take-append_seam}
-use borrow.Author.Tests.{leb-true, eq-eqb}
+use Rattle.std.proofs.Common.{Ok, Result, Err, ◌≡◌, refl, sym, ap, subst, ◌∙◌, true, List, ◌++◌, ℕ, ◌*◌, ◌≤◌, arith, leb, length, take, length-take-le, leb-true, eq-eqb}
+use lib.Seq.{take-append_seam}
 use Rattle.rules.proofs.Judging.{all_hold, permitted_too}
 use Rattle.rules.proofs.Lists.{both}
-use Rattle.std.specs.Prelude.{Result, Err, ⊤}
-use Rattle.rules.specs.Settings.{within, checked}
-use Rattle.rules.specs.State.{initial}
+use Rattle.std.specs.Prelude.{⊤}
+use Rattle.rules.specs.Settings.{within}
 use Rattle.rules.specs.declared.Settings.{Settings}
-use Rattle.rules.specs.declared.Setting.{Setting}
 use Rattle.rules.specs.declared.Setting.TheVariants as setting
 use Rattle.rules.specs.declared.Config.{Config}
-use Rattle.connection.specs.Abstract.{abs_of, Valid}
-use Rattle.connection.specs.declared.Connection.{Connection}
 use Rattle.chunks.specs.Blocks.{BLOCK, blocks_for}
 use Rattle.table.specs.Table.{size}
-use Rattle.connection_open.specs.Start.{sized, Begins, Creates}
-use Rattle.connection_open.specs.declared.NotCreated.{NotCreated}
-use Rattle.connection_open.specs.declared.NotCreated.TheVariants.{Wrong, Size}
+use Rattle.connection_open.specs.Start.{sized}
 use Rattle.trace_events.specs.Format.{settings_at}
-use Rattle.std.specs.Prelude.{Ok, Err}
 use Rattle.trace.specs.Output.{most, sizes_of, begun_as}
 use Rattle.trace.specs.declared.Stop.{Stop}
 use Rattle.trace.specs.declared.ends.Sizes.{Sizes}
@@ -41,27 +26,6 @@ use Rattle.trace_events.specs.Calls.{longest}
 use Rattle.trace_lines.specs.Writing.{longest_line}
 use Rattle.trace_play.specs.Places.{Roomy, sized_for}
 use Rattle.trace_play.specs.Plays.{Lent, lent, Fitting, Started, OnlyLine, Lines, Enough, Performed, Performs, unread, unreached, played}
-
--- ---- the connection
-
-module _ (t : Settings) (table links pool : List ℕ) (f : Fitting t (length table) (length links) (length pool)) (r : Result Connection NotCreated) (t' l' p' : List ℕ) (k : Creates t table links pool r t' l' p') where
-  begins : (x : Result Connection NotCreated) → r ≡ x → Begins f.config x t' l' p'
-  begins x e = subst (λ (y : Result Connection NotCreated). Begins f.config y t' l' p') e (k.made f.config f.fine f.fits)
-
-  pub made-valid : (c : Connection) → r ≡ Ok c → Valid c t' l' p'
-  made-valid c e = (begins (Ok c) e).0
-
-  pub made-new : (c : Connection) → r ≡ Ok c → (j : Config) → checked t ≡ Ok j → abs_of c t' l' p' ≡ initial j
-  made-new c e j g =
-      let h : Ok f.config ≡ Ok j = sym f.fine ∙ g in
-      let same : f.config ≡ j = cc in
-      rw (← same) (begins (Ok c) e).1
-
-  pub never-wrong : (w : Setting) → r ≡ Err (Wrong w) → ⊥
-  never-wrong w e = begins (Err (Wrong w)) e
-
-  pub never-size : r ≡ Err Size → ⊥
-  never-size e = begins (Err Size) e
 
 -- ---- the settings
 

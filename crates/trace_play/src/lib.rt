@@ -20,6 +20,7 @@ use trace::{Place, Report, SCRATCH, Stop};
 
 // The connection, the events applied, the bytes of the input that lie before those in the buffer, and where the program stands in its input
 // and its output.
+// `Roomy`, `Sound`, `Counted` and `not_done` stay in contracts: as a ghost field (tried), each State that a spec builds needs their proof.
 #[derive(Clone, Copy, Debug, PartialEq, Eq)]
 struct State {
     connection: Connection,
@@ -28,7 +29,7 @@ struct State {
     standing: Standing,
 }
 
-// What follows a run.
+// What follows a run. A match on three steps and no closures: the definitions name the steps.
 #[derive(Clone, Copy, Debug, PartialEq, Eq)]
 enum Task {
     Write,
@@ -83,9 +84,14 @@ fn finish<W: Write>(state: State, stop: Stop, output: &mut W, out: &mut [u8]) ->
             ..state
         };
     }
-    let left = standing.have - standing.at;
-    let growth = state.connection.growth;
-    let put = last_line(stop, left, passed(state), state.applied, growth, out);
+    let put = last_line(
+        stop,
+        standing.have - standing.at,
+        passed(state),
+        state.applied,
+        state.connection.growth,
+        out,
+    );
     let last = Standing { put, ..flushed }.flush(output, out);
     State {
         standing: Standing {
@@ -298,26 +304,22 @@ fn perform<R: Read, W: Write>(
         return outcome;
     }
     match trace::begin(&src[..filled.have]) {
-        Ok(begun) => {
-            let sizes = begun.sizes;
-            let standing = Standing {
+        Ok(begun) => start(
+            begun.settings,
+            input,
+            output,
+            &mut table[..begun.sizes.table],
+            &mut links[..begun.sizes.links],
+            &mut pool[..begun.sizes.pool],
+            sent,
+            bytes,
+            src,
+            out,
+            Standing {
                 at: begun.next,
                 ..filled
-            };
-            start(
-                begun.settings,
-                input,
-                output,
-                &mut table[..sizes.table],
-                &mut links[..sizes.links],
-                &mut pool[..sizes.pool],
-                sent,
-                bytes,
-                src,
-                out,
-                standing,
-            )
-        }
+            },
+        ),
         Err(stop) => only_line(stop, filled, output, out),
     }
 }

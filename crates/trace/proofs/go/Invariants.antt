@@ -1,6 +1,6 @@
 -- `trace::go` meets its contract. The loop's invariant: the events applied are the start of the definition's run, and what is left
 -- of it starts where the loop stands. The measure is the allowance that is left. Assumes nothing.
-use Prim.Native.Nat.{◌-◌}
+use Rattle.std.proofs.Common.{◌-◌}
 use Rattle.trace.proofs.Running.{Standing}
 use Rattle.trace.proofs.go.Given as goal
 

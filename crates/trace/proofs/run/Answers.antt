@@ -3,4 +3,4 @@ use Rattle.std.proofs.Common.{sym, ◌∙◌}
 use Rattle.trace.proofs.run.Goals as goal
 
 pub returns-clause-runs : goal.returns-clause-runs
-returns-clause-runs c = rw (sym c.sized-right.ensures ∙ c.if-not-right.false) c.go.ensures
+returns-clause-runs c = rw (sym c.sized.ensures ∙ c.if-not-sized.false) c.go.ensures

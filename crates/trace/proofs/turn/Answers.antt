@@ -1,6 +1,5 @@
 -- `trace::turn` meets its contract: an event that is there, with room for its line, is applied and written. Assumes nothing.
-use mathlib.Core.Path.{refl, sym, ◌∙◌}
-use Prim.Native.Nat.{◌+◌}
+use Rattle.std.proofs.Common.{refl, sym, ◌∙◌, ◌+◌}
 use Rattle.std.proofs.lemmas.Result.{err_from_is_err_and}
 use Rattle.trace.proofs.Turning.{none-halts, none-lacks, lies, full-halts, goes}
 use Rattle.trace.proofs.turn.Goals as goal

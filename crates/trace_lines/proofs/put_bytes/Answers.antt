@@ -12,21 +12,9 @@ returns-then-is_empty-clause-stores c =
     let h : hex b ≡ [] = empty (hex b) (omega (arith, hex-size b)) in
     rw (h, dash_none) c.put_dash.ensures
 
-pub put_hex-p-requires : goal.put_hex-p-requires
-put_hex-p-requires c = omega (arith, hex-size c.args.bytes.now)
-
-pub bounds-out-p : goal.bounds-out-p
-bounds-out-p c = omega (arith, hex-size c.args.bytes.now)
-
-pub overflow_add-result : goal.overflow_add-result
-overflow_add-result c = omega (arith, hex-size c.args.bytes.now)
-
 pub returns-clause-stores : goal.returns-clause-stores
 returns-clause-stores c =
     let b = c.args.bytes.now in
     let n : 0 < length b = grind (arith, c.is_empty.ensures, c.if-is_empty.false) in
     let h : 0 < length (hex b) = omega (arith, hex-size b) in
     rw (dash_some (hex b) h) (stores_then c.put_hex-p.ensures (stores_one _ _ _))
-
-pub returns-clause-upper_bound : goal.returns-clause-upper_bound
-returns-clause-upper_bound c = omega (arith, hex-size c.args.bytes.now)

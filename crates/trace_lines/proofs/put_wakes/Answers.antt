@@ -1,7 +1,7 @@
 -- `trace_lines::put_wakes` meets its contract. Assumes nothing.
 use Rattle.std.proofs.Common.{◌≡◌, [], ◌<◌, arith, length}
 use Rattle.trace_lines.proofs.Stored.{stores_one, stores_at, stores_then}
-use Rattle.trace_lines.proofs.Texts.{marks-size, wakes-all, wakes-none, wakes-some, empty}
+use Rattle.trace_lines.proofs.Texts.{wakes-all, wakes-none, wakes-some, empty}
 use Rattle.trace_lines.specs.Line.{marks}
 use Rattle.trace_lines.proofs.put_wakes.Goals as goal
 
@@ -15,17 +15,8 @@ returns-then-p-at-clause-stores c =
     rw (wakes-none w c.if-wakes.false e)
     (stores_then (rw e at c.put_marks-p.ensures) (stores_at c.if-p-at.true c.put_dash.ensures))
 
-pub bounds-out-p : goal.bounds-out-p
-bounds-out-p c = omega (arith, marks-size c.args.wakes)
-
-pub overflow_add-result : goal.overflow_add-result
-overflow_add-result c = omega (arith, marks-size c.args.wakes)
-
 pub returns-clause-stores : goal.returns-clause-stores
 returns-clause-stores c =
     let w = c.args.wakes in
     let h : 0 < length (marks w) = omega arith in
     rw (wakes-some w c.if-wakes.false h) (stores_then c.put_marks-p.ensures (stores_one _ _ _))
-
-pub returns-clause-upper_bound : goal.returns-clause-upper_bound
-returns-clause-upper_bound c = omega (arith, marks-size c.args.wakes)

@@ -1,5 +1,5 @@
 -- `trace_play::finish` meets its contract: two writes, the second where the first did its work. Assumes nothing.
-use mathlib.Core.Path.{sym, ◌∙◌}
+use Rattle.std.proofs.Common.{sym, ◌∙◌}
 use Rattle.trace_play.specs.Plays.{broken, last}
 use Rattle.trace_play.proofs.finish.Goals as goal
 

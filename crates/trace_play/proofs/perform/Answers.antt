@@ -1,15 +1,8 @@
 -- `trace_play::perform` meets its contract: what the settings ask for is there. Assumes nothing.
-use mathlib.Core.Path.{◌≡◌, refl, sym, ap, ◌∙◌}
-use mathlib.Core.List.{List}
-use Prim.Native.Nat.{ℕ, ◌≤◌}
-use native.Mathlib.Omega.{arith}
-use lib.ListN.{length, take}
-use lib.Seq.{length-take-le}
-use Rattle.std.specs.Prelude.{is_some}
+use Rattle.std.proofs.Common.{◌≡◌, refl, sym, ap, ◌∙◌, List, ℕ, ◌≤◌, arith, length, take, length-take-le, is_some, Result, Ok}
 use Rattle.filter.specs.declared.Standing.{Standing}
 use Rattle.rules.specs.declared.Settings.{Settings}
 use Rattle.trace_events.specs.Format.{settings_at}
-use Rattle.std.specs.Prelude.{Result, Ok}
 use Rattle.trace.specs.declared.Stop.{Stop}
 use Rattle.trace.specs.Output.{begun_as}
 use Rattle.trace.specs.declared.Sizes.{Sizes}

@@ -1,5 +1,5 @@
 -- `trace_play::play` meets its contract, by the invariant of its loop. Assumes nothing.
-use native.Mathlib.Omega.{arith}
+use Rattle.std.proofs.Common.{arith}
 use Rattle.filter.specs.Account.{nothing}
 use Rattle.trace_play.specs.Plays.{lent, none, more}
 use Rattle.trace_play.proofs.play.Goals as goal

@@ -1,6 +1,6 @@
 -- The loop's invariant: the state is valid and was reached turn by turn, and the places are inside the buffers, which keep their sizes.
 -- The measure is what is left to do.
-use lib.ListN.{length}
+use Rattle.std.proofs.Common.{length}
 use Rattle.connection.specs.Abstract.{Valid}
 use Rattle.filter.specs.Account.{Account}
 use Rattle.trace_play.specs.Places.{Counted, Sound, Roomy}
