@@ -25,7 +25,17 @@ pub enum NotCreated {
     Size,
 }
 
-// The number of the reply.
+// The number of the reply, of a connection that was made too: a `Result` is std's, and can't be given a `From`.
+pub fn number(created: Result<Connection, NotCreated>) -> u32
+    ensures { result ≡ number created }
+{
+    match created {
+        Ok(_) => 0,
+        Err(refusal) => refusal.into(),
+    }
+}
+
+// The number of a refusal.
 impl From<NotCreated> for u32 {
     ghost from_gives = { λ refusal n. n ≡ number (Err refusal) };
 

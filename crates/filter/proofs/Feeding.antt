@@ -1,8 +1,9 @@
 -- One read more: what stands from the start on is what was consumed of the input. Assumes nothing.
-use Rattle.std.proofs.Common.{Option, Some, None, Result, Ok, Err, ◌≡◌, refl, sym, ap, subst, ◌∙◌, Bool, true, false, cond, List, ◌++◌, ℕ, ◌≤◌, arith, take, drop, take-append-drop, take-take}
-use Rattle.std.specs.Io.KnownBytes.{Consumes, IsAtEnd}
+use Rattle.std.proofs.Common.{Option, Some, None, Result, Ok, Err, IfOk, ◌≡◌, refl, sym, ap, subst, ◌∙◌, Bool, true, false, cond, List, [], ◌++◌, ℕ, zero, suc, ◌+◌, ◌≤◌, ◌<◌, ◌==◌, ne_eqb, arith, length, take, drop, take-append-drop, take-take}
+use Rattle.std.specs.Io.KnownBytes.{Keeps, Consumes, IsAtEnd, ReadConsumes}
 use Rattle.std.proofs.KnownBytes.{Consumes-trans, Consumes-kept}
-use Rattle.filter.specs.Parts.{Inside, Brings, after_read, done, work, holding}
+use Rattle.std.specs.Counts.{IsPrefixLen}
+use Rattle.filter.specs.Parts.{Inside, answered, Brings, after_read, done, work, holding}
 use Rattle.filter.specs.declared.Standing.{Standing}
 use Rattle.filter.specs.declared.Fault.TheVariants.{Unread}
 
@@ -17,6 +18,21 @@ pub record Reading (size : ℕ) (old new : Option (List ℕ)) (input : List ℕ)
   pub failed : done s ≡ true → work s ≡ Err Unread
   pub consumed : Consumes old new (take s.have input)
   pub end : s.ended ≡ true → done s ≡ false → IsAtEnd new
+
+none-taken : (old new : Option (List ℕ)) → Consumes old new [] → Keeps old new
+none-taken None new c = tt
+none-taken (Some x) None c = absurd c
+none-taken (Some x) (Some y) c = sym c
+
+-- What a read's answer means is what the read took, where the bytes that it gave stand behind the first `have` of the buffer.
+pub answered-brings :
+    {E : Type 0} (old new : Option (List ℕ)) (have : ℕ) (input bytes : List ℕ) → ((n : ℕ) → n ≤ length bytes → drop have (take (have + n) input) ≡ take n bytes) → 0 < length bytes
+    → (got : Result ℕ E) → IfOk got (λ (n : ℕ). IsPrefixLen n bytes) → ReadConsumes old new got bytes → Brings old new have input (answered got have)
+answered-brings old new have input bytes behind room (Ok zero) l b = (none-taken old new b.0, b.1 refl room)
+answered-brings old new have input bytes behind room (Ok (suc n)) l b =
+    let more : (suc n == 0) ≡ false = ne_eqb (suc n) 0 (λ e. omega arith) in
+    rw more (subst (Consumes old new) (sym (behind (suc n) l.0)) b.0)
+answered-brings old new have input bytes behind room (Err e) l b = b
 
 module _ (size : ℕ) (old mid new : Option (List ℕ)) (input input' : List ℕ) (h : ℕ) (f : h ≤ size) (c : Consumes old mid (take h input)) (same : take h input' ≡ take h input) where
   before : Consumes old mid (take h input')

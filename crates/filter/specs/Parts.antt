@@ -1,5 +1,5 @@
 -- Where a program stands in its input and its output, before and after a read and a write.
-use Rattle.std.specs.Prelude.{◌≡◌, Bool, true, false, cond, List, [], ℕ, ◌-◌, ◌≤◌, ◌<◌, leb, length, take, drop, Option, Some, None, is_some, unwrap_or, Result, Ok, Err, ⊤}
+use Rattle.std.specs.Prelude.{◌≡◌, ◌==◌, Bool, true, false, cond, List, [], ℕ, ◌+◌, ◌-◌, ◌≤◌, ◌<◌, leb, length, take, drop, Option, Some, None, Result, Ok, Err, ⊤}
 use Rattle.std.specs.Io.KnownBytes.{Keeps, Consumes, IsAtEnd}
 use Rattle.std.specs.declared.io.Error.{Error}
 use Rattle.filter.specs.Account.{Account, reads, writes}
@@ -9,27 +9,27 @@ use Rattle.filter.specs.declared.Fault.TheVariants.{Unread, Unwritten}
 
 -- nothing is read and nothing is put
 abbrev pub first : Standing
-first = record { at = 0; have = 0; put = 0; ended = false; outcome = None }
+first = record { at = 0; have = 0; put = 0; ended = false; done = false; work = Ok tt }
 
 -- After a read behind the first `front` bytes, which are those not yet taken: there is more; or the input has ended; or the read failed, and
 -- all is done.
 abbrev pub after_read : {E : Type 0} → Standing → ℕ → Result (Option ℕ) E → Standing
-after_read s front (Ok (Some n)) = record { at = 0; have = n; put = s.put; ended = s.ended; outcome = s.outcome }
-after_read s front (Ok None) = record { at = 0; have = front; put = s.put; ended = true; outcome = s.outcome }
-after_read s front (Err e) = record { at = 0; have = front; put = s.put; ended = true; outcome = Some (Err Unread) }
+after_read s front (Ok (Some n)) = record { at = 0; have = n; put = s.put; ended = s.ended; done = s.done; work = s.work }
+after_read s front (Ok None) = record { at = 0; have = front; put = s.put; ended = true; done = s.done; work = s.work }
+after_read s front (Err e) = record { at = 0; have = front; put = s.put; ended = true; done = true; work = Err Unread }
 
 -- after a write of all that was put: where it failed, all is done
 abbrev pub after_write : {E : Type 0} → Standing → Result ⊤ E → Standing
-after_write s (Ok u) = record { at = s.at; have = s.have; put = 0; ended = s.ended; outcome = s.outcome }
-after_write s (Err e) = record { at = s.at; have = s.have; put = 0; ended = s.ended; outcome = Some (Err Unwritten) }
+after_write s (Ok u) = record { at = s.at; have = s.have; put = 0; ended = s.ended; done = s.done; work = s.work }
+after_write s (Err e) = record { at = s.at; have = s.have; put = 0; ended = s.ended; done = true; work = Err Unwritten }
 
 -- whether all is done
 abbrev pub done : Standing → Bool
-done s = is_some s.outcome
+done s = s.done
 
 -- the work that reads and writes did: all of it where none failed
 abbrev pub work : Standing → Result ⊤ Fault
-work s = unwrap_or s.outcome (Ok tt)
+work s = s.work
 
 -- what was put is passed on to be written
 pub record Flushed (s : Standing) (out : List ℕ) (b : Account) (s' : Standing) : Type 0 where
@@ -43,6 +43,11 @@ Flushes s out s' = (b : Account) × Flushed s out b s'
 -- the bytes between two places, which go before the next part; none where they are not all there
 abbrev pub kept : List ℕ → ℕ → ℕ → List ℕ
 kept s from to = cond (leb to (length s)) (take (to - from) (drop from s)) []
+
+-- What a read's answer means: it failed; or where it brought no byte the input has ended; else there is more.
+abbrev pub answered : {E : Type 0} → Result ℕ E → ℕ → Result (Option ℕ) E
+answered (Ok n) have = Ok (cond (n == 0) None (Some (have + n)))
+answered (Err e) have = Err e
 
 -- bytes read, one or more, come after those that are there, inside the buffer
 abbrev pub Inside : {E : Type 0} → ℕ → ℕ → Result (Option ℕ) E → Type 0
@@ -70,7 +75,7 @@ Feeds s input s' input' = (b : Account) × Fed s input b s' input'
 
 -- what was read stands from the buffer's start on, and nothing is taken of it or put
 abbrev pub holding : ℕ → Bool → Standing
-holding have ended = record { at = 0; have = have; put = 0; ended = ended; outcome = None }
+holding have ended = record { at = 0; have = have; put = 0; ended = ended; done = false; work = Ok tt }
 
 -- As many bytes are there as are asked for, or the input has ended; or a read failed.
 pub record Fills (least size : ℕ) (s : Standing) : Type 0 where

@@ -1,23 +1,25 @@
 // What programs share that read standard input in parts and write standard output: where such a program stands, a read and a write.
 #![tactic(auto)]
 
-ghost use Rattle.std.specs.Prelude.{◌≡◌, ◌++◌, ◌≤◌, true, false, OnOk, length, take, drop};
+ghost use Rattle.std.specs.Prelude.{◌≡◌, ◌+◌, ◌^◌, ◌++◌, ◌≤◌, ◌<◌, true, false, OnOk, IfOk, length, take, drop};
 ghost use Rattle.std.specs.Io.KnownBytes.{Appends, Consumes, IsAtEnd};
-ghost use Rattle.filter.specs.Parts.{kept, Inside, Brings, first, after_read, after_write, done, work, Flushes, Feeds, Fills};
+ghost use Rattle.filter.specs.Parts.{kept, Inside, answered, Brings, first, after_read, after_write, done, work, Flushes, Feeds, Fills};
 
 use std::fmt;
 use std::io::{self, ErrorKind, Read, Write};
 
 // Where a program stands: the input that was read and not yet taken lies from `at` to `have`, and what is not yet written lies below
-// `put`; whether the input has ended; and, where all is done, whether every read and write did its work. Places, and no reader or writer with
-// a buffer: the buffers are lent, for nothing may allocate.
+// `put`; whether the input has ended; whether all is done; and the work that reads and writes did. Places, and no reader or writer with a
+// buffer: the buffers are lent, for nothing may allocate. `done` stands apart from `work`: an Option of the work has no value for a failure
+// after which all is not done, and the calls answer on that too.
 #[derive(Clone, Copy, Debug, PartialEq, Eq)]
 pub struct Standing {
     pub at: usize,
     pub have: usize,
     pub put: usize,
     pub ended: bool,
-    pub outcome: Option<Result<(), Fault>>,
+    pub done: bool,
+    pub work: Result<(), Fault>,
 }
 
 // Why work is not whole: a read failed, or a write; or there was none, for what was lent is of a wrong size. The program whose work it is
@@ -49,7 +51,8 @@ impl Standing {
             have: 0,
             put: 0,
             ended: false,
-            outcome: None,
+            done: false,
+            work: Ok(()),
         }
     }
 
@@ -71,7 +74,8 @@ impl Standing {
             },
             Err(_) => Standing {
                 ended: true,
-                outcome: Some(Err(Fault::Unread)),
+                done: true,
+                work: Err(Fault::Unread),
                 ..read
             },
         }
@@ -85,7 +89,8 @@ impl Standing {
         match written {
             Ok(()) => flushed,
             Err(_) => Standing {
-                outcome: Some(Err(Fault::Unwritten)),
+                done: true,
+                work: Err(Fault::Unwritten),
                 ..flushed
             },
         }
@@ -115,7 +120,19 @@ impl Standing {
     pub fn work(self) -> Result<(), Fault>
         ensures { result ≡ work self }
     {
-        self.outcome.unwrap_or(Ok(()))
+        self.work
+    }
+}
+
+// What a read's answer means, where bytes are there up to `have` before it: it failed; or it brought none, and the input has ended; or as
+// many are there after it.
+fn answered(got: io::Result<usize>, have: usize) -> io::Result<Option<usize>>
+    requires { IfOk got (λ n. have + n < 2 ^ 64) }
+    ensures { result ≡ answered got have }
+{
+    match got? {
+        0 => Ok(None),
+        n => Ok(Some(have + n)),
     }
 }
 
@@ -129,10 +146,7 @@ fn read_more<R: Read>(input: &mut R, src: &mut [u8], have: usize) -> io::Result<
     if src.len() <= have {
         return Err(ErrorKind::StorageFull.into());
     }
-    match input.read(&mut src[have..])? {
-        0 => Ok(None),
-        n => Ok(Some(have + n)),
-    }
+    answered(input.read(&mut src[have..]), have)
 }
 
 // Writes the bytes, and leaves nothing of them with the writer.

@@ -5,6 +5,7 @@ use Rattle.std.specs.List.{slice_range}
 use Rattle.std.proofs.lemmas.List.{take_rest, get_or-drop}
 use Rattle.trace_events.specs.Numbers.{groups}
 use Rattle.trace_events.specs.declared.Unreadable.TheVariants.{Short, Bad}
+use Rattle.trace_events.proofs.AnyGroups as any
 
 -- the byte of the tenth group is 0 or 1
 abbrev pub LastFits : ℕ → ℕ → Type 0
@@ -50,13 +51,11 @@ module _ (s : List ℕ) (at k w v : ℕ) (within : k < 10) (weighs : w ≡ 128 ^
   one_of = let e : 10 - k ≡ suc (9 - k) = omega arith in rw e
 
   pub cut : length s ≤ at + k → groups (10 - k) s (at + k) w v ≡ Err Short
-  unfolding groups
-  cut h = rw (one_of, le-ltb _ _ h)
+  cut h = one_of ∙ any.cut s (at + k) w v (9 - k) h
 
   module _ (b : ℕ) (here : ByteAt s (at + k) b) where
     pub ends : LastFits k b → b < 128 → groups (10 - k) s (at + k) w v ≡ Ok (record { value = v + b % 128 * w; next = at + k + 1 })
-    unfolding groups
-    ends f l = rw (one_of, here.1, lt-ltb _ _ here.0, lt-ltb _ _ (sum_fits k w v within weighs below b f), lt-ltb _ _ l)
+    ends f l = one_of ∙ any.ends s (at + k) w v (9 - k) b here.0 (sym here.1) (sum_fits k w v within weighs below b f) l
 
     more : v + b % 128 * w < 2 ^ 64 → 128 ≤ b → groups (10 - k) s (at + k) w v ≡ groups (9 - k) s (at + (k + 1)) (w * 128) (v + b % 128 * w)
     unfolding groups
@@ -68,8 +67,7 @@ module _ (s : List ℕ) (at k w v : ℕ) (within : k < 10) (weighs : w ≡ 128 ^
         rw e (sym (more (sum_fits k w v within weighs below b f) l))
 
     past : 2 ^ 64 ≤ v + b % 128 * w → groups (10 - k) s (at + k) w v ≡ Err Bad
-    unfolding groups
-    past f = rw (one_of, here.1, lt-ltb _ _ here.0, le-ltb _ _ f)
+    past f = one_of ∙ any.past s (at + k) w v (9 - k) b here.0 (sym here.1) f
 
     -- the tenth group is neither 0 nor 1
     pub too_large : k ≡ 9 → 1 < b → groups (10 - k) s (at + k) w v ≡ Err Bad
@@ -138,10 +136,6 @@ no_eleventh : (s : List ℕ) (p w v : ℕ) → groups 0 s p w v ≡ Err Bad
 unfolding groups
 no_eleventh s p w v = refl
 
-too_much : (s : List ℕ) (p w v b : ℕ) → p < length s → b ≡ get_or s p 0 → 2 ^ 64 ≤ v + b % 128 * w → groups 1 s p w v ≡ Err Bad
-unfolding groups
-too_much s p w v b h e f = rw (← e, lt-ltb _ _ h, le-ltb _ _ f)
-
 -- the tenth group is 0 or 1, and no group follows it
 pub tenth_bad : (s : List ℕ) (p v b : ℕ) → p < length s → b ≡ get_or s p 0 → v < 9223372036854775808 → 1 < b → groups 1 s p 9223372036854775808 v ≡ Err Bad
 tenth_bad s p v b h e l g = go (ltb (b % 128) 2) refl
@@ -152,4 +146,4 @@ tenth_bad s p v b h e l g = go (ltb (b % 128) 2) refl
         goes_on s p 9223372036854775808 v 0 b h e (omega arith) (omega arith) ∙ no_eleventh s (p + 1) _ _
     go false q =
         let m : 2 ≤ b % 128 = ltb-false _ _ q in
-        too_much s p 9223372036854775808 v b h e (omega arith)
+        any.past s p 9223372036854775808 v 0 b h e (omega arith)

@@ -1,3 +1,4 @@
+pub mod AnyGroups
 pub mod Groups
 pub mod Inside
 pub mod More

@@ -38,7 +38,7 @@ use Rattle.rules.specs.declared.Config.{Config}
 use Rattle.rules.specs.declared.Setting.{Setting}
 
 -- as many bytes are kept as were not taken
-kept-length : (s : List ℕ) (from to : ℕ) → from ≤ to → to ≤ length s → length (kept s from to) ≡ to - from
+pub kept-length : (s : List ℕ) (from to : ℕ) → from ≤ to → to ≤ length s → length (kept s from to) ≡ to - from
 kept-length s from to h k = rw (le-leb to (length s) k) (length-take-le (to - from) (drop from s) (rw (length-drop from s) (omega arith)))
 
 -- the state that is reached
@@ -342,7 +342,7 @@ performed {m} (played {m'} have ended input b r n h e q) =
     (last.start, λ w later f. last.all is_done (whole w) later f, λ w. last.line is_done (whole w))
   where
     first : State
-    first = record { connection = q.connection; applied = 0; before = 0; standing = record { at = b.next; have = have; put = 0; ended = ended; outcome = None } }
+    first = record { connection = q.connection; applied = 0; before = 0; standing = record { at = b.next; have = have; put = 0; ended = ended; done = false; work = Ok tt } }
 
     made : Lent
     made = lent q.table q.links q.pool input m.room

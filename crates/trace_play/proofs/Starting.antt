@@ -1,5 +1,5 @@
 -- Settings that a trace may have ask for no more than the program has, and make a connection. Assumes nothing.
-use Rattle.std.proofs.Common.{Ok, Result, Err, ◌≡◌, refl, sym, ap, subst, ◌∙◌, true, List, ◌++◌, ℕ, ◌*◌, ◌≤◌, arith, leb, length, take, length-take-le, leb-true, eq-eqb}
+use Rattle.std.proofs.Common.{Ok, Result, Err, ◌≡◌, refl, sym, ap, subst, ◌∙◌, true, List, ◌++◌, ℕ, ◌*◌, ◌≤◌, arith, leb, length, take, length-take-le, leb-true, eqb, eqb-true, eq-eqb}
 use lib.Seq.{take-append_seam}
 use Rattle.rules.proofs.Judging.{all_hold, permitted_too}
 use Rattle.rules.proofs.Lists.{both}
@@ -77,10 +77,10 @@ pub plays : (m : Lent) (x : Standing) (input : List ℕ) (b : Begun) (r : Result
     → length t' ≡ b.sizes.table → length l' ≡ b.sizes.links → length p' ≡ b.sizes.pool
     → x ≡ holding x.have x.ended → Enough x.have x.ended → x.have ≤ length input
     → begun_as (settings_at (take x.have input)) ≡ Ok b
-    → Started b.settings (record { at = b.next; have = x.have; put = x.put; ended = x.ended; outcome = x.outcome }) input m.room r (lent t' l' p' input' room')
+    → Started b.settings (record { at = b.next; have = x.have; put = x.put; ended = x.ended; done = x.done; work = x.work }) input m.room r (lent t' l' p' input' room')
     → Performs m r (lent (t' ++ more-t) (l' ++ more-l) (p' ++ more-p) input' room')
 plays m x input b r {t'} {l'} {p'} {input'} {room'} more-t more-l more-p i j k e n h g q =
-    let w = subst (λ (y : Standing). Started b.settings (record { at = b.next; have = y.have; put = y.put; ended = y.ended; outcome = y.outcome }) input m.room r (lent t' l' p' input' room')) e q in (
+    let w = subst (λ (y : Standing). Started b.settings (record { at = b.next; have = y.have; put = y.put; ended = y.ended; done = y.done; work = y.work }) input m.room r (lent t' l' p' input' room')) e q in (
       _,
       played {m' = lent (t' ++ more-t) (l' ++ more-l) (p' ++ more-p) input' room'} x.have x.ended input b r n h g (rw (front_is t' more-t b.sizes.table i, front_is l' more-l b.sizes.links j, front_is p' more-p b.sizes.pool k) w),
     )
@@ -89,11 +89,12 @@ plays m x input b r {t'} {l'} {p'} {input'} {room'} more-t more-l more-p i j k e
 
 -- what is judged to be enough
 pub enough : (t l p sent bytes input room : ℕ) → sized_for t l p sent bytes input room ≡ true
-    → (2700 ≤ t) × (616 ≤ l) × (630784 ≤ p) × Roomy input room
+    → (2700 ≤ t) × (616 ≤ l) × (630784 ≤ p) × (sent ≡ 12) × (bytes ≡ 16384) × Roomy input room
 enough t l p sent bytes input room e =
     let a = both (leb 2700 t) _ e in
     let b = both (leb 616 l) _ a.1 in
     let c = both (leb 630784 p) _ b.1 in
     let d = both (leb longest input) _ c.1 in
     let f = both (leb longest_line room) _ d.1 in
-    (leb-true _ _ a.0, leb-true _ _ b.0, leb-true _ _ c.0, (leb-true _ _ d.0, leb-true _ _ f.0))
+    let g = both (eqb sent 12) _ f.1 in
+    (leb-true _ _ a.0, leb-true _ _ b.0, leb-true _ _ c.0, eqb-true _ _ g.0, eqb-true _ _ g.1, (leb-true _ _ d.0, leb-true _ _ f.0))

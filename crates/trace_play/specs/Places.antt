@@ -42,7 +42,8 @@ after_run s r = record {
     have = s.standing.have;
     put = r.place.put;
     ended = s.standing.ended;
-    outcome = s.standing.outcome;
+    done = s.standing.done;
+    work = s.standing.work;
   };
 }
 

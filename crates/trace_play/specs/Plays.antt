@@ -1,5 +1,5 @@
 -- What the program does, turn by turn, with the account of its reads and writes.
-use Rattle.std.specs.Prelude.{◌≡◌, Bool, true, false, List, [], ◌++◌, ℕ, ◌-◌, ◌≤◌, length, take, Some, None, Result, Ok, Err, ⊤}
+use Rattle.std.specs.Prelude.{◌≡◌, Bool, true, false, List, [], ◌++◌, ℕ, ◌-◌, ◌≤◌, length, take, Result, Ok, Err, ⊤}
 use Rattle.rules.specs.Settings.{checked}
 use Rattle.rules.specs.State.{initial}
 use Rattle.rules.specs.declared.Settings.{Settings}
@@ -38,11 +38,11 @@ pub record Took (s : State) (input : List ℕ) (b : Account) (s' : State) (input
 
 -- a text stands at the start of the room
 abbrev pub putting : Standing → ℕ → Standing
-putting x end = record { at = x.at; have = x.have; put = end; ended = x.ended; outcome = x.outcome }
+putting x end = record { at = x.at; have = x.have; put = end; ended = x.ended; done = x.done; work = x.work }
 
 -- all is done
 abbrev pub over : Standing → Standing
-over x = record { at = x.at; have = x.have; put = x.put; ended = x.ended; outcome = Some (work x) }
+over x = record { at = x.at; have = x.have; put = x.put; ended = x.ended; done = true; work = x.work }
 
 -- the lines that there were are written, and where that did its work, the last line, which the room then holds
 pub data Closed (why : Stop) (s : State) (room : List ℕ) : Account → State → List ℕ → Type 0 where
@@ -143,7 +143,7 @@ pub data Performed (m : Lent) : Account → Result ⊤ Fault → Lent → Type 0
   unreached : {b : Account} {room' : List ℕ} (have : ℕ) (ended : Bool) (input : List ℕ) (why : Stop) (r : Result ⊤ Fault) → Enough have ended → have ≤ length input → begun_as (settings_at (take have input)) ≡ Err why → OnlyLine why (holding have ended) b r room'
       → Performed m (then (reads (take have input)) b) r (lent m.table m.links m.pool input room')
   played : {m' : Lent} (have : ℕ) (ended : Bool) (input : List ℕ) (begun : Begun) (r : Result ⊤ Fault) → Enough have ended → have ≤ length input → begun_as (settings_at (take have input)) ≡ Ok begun
-      → (e : Started begun.settings (record { at = begun.next; have = have; put = 0; ended = ended; outcome = None }) input m.room r (fronts begun.sizes m'))
+      → (e : Started begun.settings (record { at = begun.next; have = have; put = 0; ended = ended; done = false; work = Ok tt }) input m.room r (fronts begun.sizes m'))
       → Performed m (then (reads (take have input)) e.ended.account) r m'
 
 -- whether a read said that the input has ended

@@ -78,7 +78,7 @@ fn finish<W: Write>(state: State, stop: Stop, output: &mut W, out: &mut [u8]) ->
 {
     let standing = state.standing;
     let flushed = standing.flush(output, out);
-    if flushed.outcome.is_some() {
+    if flushed.done {
         return State {
             standing: flushed,
             ..state
@@ -94,10 +94,7 @@ fn finish<W: Write>(state: State, stop: Stop, output: &mut W, out: &mut [u8]) ->
     );
     let last = Standing { put, ..flushed }.flush(output, out);
     State {
-        standing: Standing {
-            outcome: Some(last.work()),
-            ..last
-        },
+        standing: Standing { done: true, ..last },
         ..state
     }
 }
@@ -227,7 +224,7 @@ fn play<R: Read, W: Write>(
     ensures { Ended start (lent table.old links.old pool.old src.old out.old) result (lent table.new links.new pool.new src.new out.new) }
 {
     let mut state = start;
-    while state.standing.outcome.is_none() {
+    while !state.standing.done {
         state = turn(
             state, input, output, table, links, pool, sent, bytes, src, out,
         );
@@ -300,8 +297,8 @@ fn perform<R: Read, W: Write>(
     ensures { Performs (lent table.old links.old pool.old src.old out.old) result (lent table.new links.new pool.new src.new out.new) }
 {
     let filled = filter::fill(input, src, SETTINGS);
-    if let Some(outcome) = filled.outcome {
-        return outcome;
+    if filled.done {
+        return filled.work;
     }
     match trace::begin(&src[..filled.have]) {
         Ok(begun) => start(

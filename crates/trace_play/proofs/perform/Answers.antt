@@ -1,5 +1,5 @@
 -- `trace_play::perform` meets its contract: what the settings ask for is there. Assumes nothing.
-use Rattle.std.proofs.Common.{◌≡◌, refl, sym, ap, ◌∙◌, List, ℕ, ◌≤◌, arith, length, take, length-take-le, is_some, Result, Ok}
+use Rattle.std.proofs.Common.{◌≡◌, sym, ap, ◌∙◌, List, ℕ, ◌≤◌, arith, length, take, length-take-le, Result, Ok}
 use Rattle.filter.specs.declared.Standing.{Standing}
 use Rattle.rules.specs.declared.Settings.{Settings}
 use Rattle.trace_events.specs.Format.{settings_at}
@@ -21,12 +21,12 @@ fits : {s : List ℕ} {t : Settings} {z : Sizes} {next : ℕ} → Prepared s t z
     → (z.table ≤ length table) × (z.links ≤ length links) × (z.pool ≤ length pool)
 fits r table links pool x y w = let f = asked r in (omega (arith, f.table, x), omega (arith, f.links, y), omega (arith, f.pool, w))
 
-pub returns-in-Some : goal.returns-in-Some
-returns-in-Some g c =
+pub returns-then-filled : goal.returns-then-filled
+returns-then-filled g c =
     let a = c.args in
     let m = lent a.table.now a.links.now a.pool.now a.src.now a.out.now in
     let k = c.fill-filled in
-    unread_performs m k.result.have k.new.src _ (rw c.in-Some.is at k.ensures.fills.failed refl)
+    unread_performs m k.result.have k.new.src _ (k.ensures.fills.failed c.if-filled.true)
 
 pub slice_bounds-start-end : goal.slice_bounds-start-end
 slice_bounds-start-end g c =
@@ -48,7 +48,7 @@ start-requires-clause-sound g c =
     let r = ready (take c.fill-filled.result.have c.fill-filled.new.src) c.begin.ensures c.in-Ok.is in
     let inside : k.result.have ≤ length k.new.src = omega (arith, k.ensures.fills.inside, k.auto.src) in
     let n = length-take-le k.result.have k.new.src inside in
-    let e = ap (λ (x : Standing). x.put) (k.ensures.fills.live (ap is_some c.in_default.is)) in
+    let e = ap (λ (x : Standing). x.put) (k.ensures.fills.live c.if-filled.false) in
     (omega (arith, r.inside, n), inside, omega (arith, e))
 
 pub start-requires-clause-fitting : goal.start-requires-clause-fitting
@@ -73,7 +73,7 @@ returns-in-Ok g c =
     let r = ready (take c.fill-filled.result.have c.fill-filled.new.src) c.begin.ensures c.in-Ok.is in
     let f = fits r a.table.now a.links.now a.pool.now p.0 p.1 p.2 in
     let inside : k.result.have ≤ length k.new.src = omega (arith, k.ensures.fills.inside, k.auto.src) in
-    plays m k.result k.new.src c.in-Ok.begun w.result _ _ _ (w.auto.table ∙ length-take-le _ _ f.0) (w.auto.links ∙ length-take-le _ _ f.1) (w.auto.pool ∙ length-take-le _ _ f.2) (k.ensures.fills.live (ap is_some c.in_default.is)) k.ensures.fills.enough inside e w.ensures
+    plays m k.result k.new.src c.in-Ok.begun w.result _ _ _ (w.auto.table ∙ length-take-le _ _ f.0) (w.auto.links ∙ length-take-le _ _ f.1) (w.auto.pool ∙ length-take-le _ _ f.2) (k.ensures.fills.live c.if-filled.false) k.ensures.fills.enough inside e w.ensures
 
 pub returns-in-Err : goal.returns-in-Err
 returns-in-Err g c =
@@ -81,4 +81,4 @@ returns-in-Err g c =
     let m = lent a.table.now a.links.now a.pool.now a.src.now a.out.now in
     let k = c.fill-filled in
     let inside : k.result.have ≤ length k.new.src = omega (arith, k.ensures.fills.inside, k.auto.src) in
-    line_performs m k.result k.new.src _ _ (k.ensures.fills.live (ap is_some c.in_default.is)) k.ensures.fills.enough inside (sym c.begin.ensures ∙ c.in-Err.is) c.only_line.ensures
+    line_performs m k.result k.new.src _ _ (k.ensures.fills.live c.if-filled.false) k.ensures.fills.enough inside (sym c.begin.ensures ∙ c.in-Err.is) c.only_line.ensures
