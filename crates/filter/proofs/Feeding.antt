@@ -19,6 +19,7 @@ pub record Reading (size : ℕ) (old new : Option (List ℕ)) (input : List ℕ)
   pub consumed : Consumes old new (take s.have input)
   pub end : s.ended ≡ true → done s ≡ false → IsAtEnd new
 
+-- who consumed nothing left all that was there
 none-taken : (old new : Option (List ℕ)) → Consumes old new [] → Keeps old new
 none-taken None new c = tt
 none-taken (Some x) None c = absurd c

@@ -23,11 +23,11 @@ abbrev pub after_write : {E : Type 0} → Standing → Result ⊤ E → Standing
 after_write s (Ok u) = record { at = s.at; have = s.have; put = 0; ended = s.ended; done = s.done; work = s.work }
 after_write s (Err e) = record { at = s.at; have = s.have; put = 0; ended = s.ended; done = true; work = Err Unwritten }
 
--- whether all is done
+-- whether all is done: the field, under the name that contracts use
 abbrev pub done : Standing → Bool
 done s = s.done
 
--- the work that reads and writes did: all of it where none failed
+-- the work that reads and writes did, all of it where none failed: the field too
 abbrev pub work : Standing → Result ⊤ Fault
 work s = s.work
 
@@ -44,7 +44,8 @@ Flushes s out s' = (b : Account) × Flushed s out b s'
 abbrev pub kept : List ℕ → ℕ → ℕ → List ℕ
 kept s from to = cond (leb to (length s)) (take (to - from) (drop from s)) []
 
--- What a read's answer means: it failed; or where it brought no byte the input has ended; else there is more.
+-- What the answer of a read means that had room for a byte: it failed; or it brought none, and the input has ended; or as many more are there
+-- as it brought.
 abbrev pub answered : {E : Type 0} → Result ℕ E → ℕ → Result (Option ℕ) E
 answered (Ok n) have = Ok (cond (n == 0) None (Some (have + n)))
 answered (Err e) have = Err e

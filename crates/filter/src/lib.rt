@@ -124,8 +124,8 @@ impl Standing {
     }
 }
 
-// What a read's answer means, where bytes are there up to `have` before it: it failed; or it brought none, and the input has ended; or as
-// many are there after it.
+// What the answer of a read means that had room for a byte, where bytes are there up to `have` before it: it failed; or it brought none, and
+// the input has ended; or as many more are there as it brought.
 fn answered(got: io::Result<usize>, have: usize) -> io::Result<Option<usize>>
     requires { IfOk got (λ n. have + n < 2 ^ 64) }
     ensures { result ≡ answered got have }

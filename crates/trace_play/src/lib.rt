@@ -298,7 +298,7 @@ fn perform<R: Read, W: Write>(
 {
     let filled = filter::fill(input, src, SETTINGS);
     if filled.done {
-        return filled.work;
+        return filled.work();
     }
     match trace::begin(&src[..filled.have]) {
         Ok(begun) => start(

@@ -26,7 +26,7 @@ returns-then-filled g c =
     let a = c.args in
     let m = lent a.table.now a.links.now a.pool.now a.src.now a.out.now in
     let k = c.fill-filled in
-    unread_performs m k.result.have k.new.src _ (k.ensures.fills.failed c.if-filled.true)
+    unread_performs m k.result.have k.new.src _ (c.work.ensures ∙ k.ensures.fills.failed c.if-filled.true)
 
 pub slice_bounds-start-end : goal.slice_bounds-start-end
 slice_bounds-start-end g c =
